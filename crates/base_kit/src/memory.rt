@@ -1,0 +1,21 @@
+//! Want of memory.
+
+use std::alloc::{AllocError, AllocFailed};
+use thiserror::Error;
+
+/// There was not enough memory.
+#[derive(Clone, Copy, Debug, PartialEq, Eq, Error)]
+#[error("out of memory")]
+pub struct Memory;
+
+impl From<AllocError> for Memory {
+    fn from(_fault: AllocError) -> Memory {
+        Memory
+    }
+}
+
+impl<T: Drop> From<AllocFailed<T>> for Memory {
+    fn from(_fault: AllocFailed<T>) -> Memory {
+        Memory
+    }
+}

@@ -1,0 +1,6 @@
+pub mod Boxes
+pub mod Closing
+pub mod Columns
+pub mod Counting
+pub mod Covering
+pub mod Trees

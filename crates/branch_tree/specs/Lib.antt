@@ -1,0 +1,4 @@
+pub mod Boxes
+pub mod Listing
+pub mod Tree
+pub mod Ways

@@ -1,0 +1,4 @@
+pub mod Rows
+pub mod Worlds
+pub mod Sizes
+pub mod Tells

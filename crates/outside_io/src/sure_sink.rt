@@ -1,0 +1,41 @@
+//! A sink in memory that never fails.
+ghost use Rattle.std.specs.Prelude.{◌≡◌, Some, []};
+ghost use Rattle.outside_io.specs.SureSinks.{written_to};
+
+use crate::append::append;
+use crate::{Sink, SinkFault};
+use std::alloc::Global;
+
+/// Text in memory. Its count of faults is the constant 0, so a call is never `Failed`; it can want memory.
+#[derive(Debug, Drop)]
+pub struct SureSink {
+    written: Vec<u8>,
+}
+
+impl SureSink {
+    /// A sink to which nothing was written yet.
+    pub fn new(alloc: Global) -> SureSink
+        ensures { written_to result ≡ Some [] }
+    {
+        SureSink {
+            written: Vec::new(alloc),
+        }
+    }
+
+    /// What was written.
+    pub fn bytes(&self) -> &[u8]
+        ensures { written_to self.now ≡ Some result.now }
+    {
+        self.written.as_slice()
+    }
+}
+
+impl Sink for SureSink {
+    ghost written = { written_to };
+
+    ghost faults = { λ _. 0 };
+
+    fn put(&mut self, _alloc: Global, piece: &[u8]) -> Result<(), SinkFault> {
+        append(&mut self.written, piece)
+    }
+}

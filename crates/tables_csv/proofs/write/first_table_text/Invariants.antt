@@ -1,0 +1,10 @@
+use Rattle.std.proofs.Common.{map, take, ◌++◌}
+use Rattle.std.specs.List.{flat_map}
+use Rattle.csv.specs.Writing.{default_writer, row_text}
+use Rattle.tables_csv.specs.Texts.{value_text}
+use Rattle.tables_csv.specs.Writers.{HasWritten}
+use Rattle.tables_csv.proofs.write.first_table_text.Given as goal
+
+abbrev pub invariant-loop-row : goal.invariant-loop-row
+invariant-loop-row l =
+    HasWritten l.writer (row_text default_writer l.fn.columns ++ flat_map (row_text default_writer) (map (map value_text) (take l.row-index l.rows)))

@@ -1,0 +1,12 @@
+use Rattle.std.proofs.Common.{◌≡◌, take, [], IsTrue}
+use Rattle.std.specs.List.{All}
+use Rattle.base_kit.specs.Names.{is_name}
+use Rattle.csv.specs.Records.{fields_of, partial_of}
+use Rattle.tables_csv.proofs.write.name_fields.Given as goal
+
+abbrev pub invariant-loop-name : goal.invariant-loop-name
+invariant-loop-name l = record {
+  front : fields_of l.fields ≡ take l.name-index l.columns;
+  partial : partial_of l.fields ≡ [];
+  names : All (λ name. IsTrue (is_name name)) (take l.name-index l.columns);
+}

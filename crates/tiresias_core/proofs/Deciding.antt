@@ -1,0 +1,41 @@
+-- From what is fetched and read to the reply and its cause.
+use Rattle.std.proofs.Common.{◌≡◌, ℕ, ◌+◌, ◌<◌, ◌≤◌, List, length, take, sym, ◌∙◌, ap, arith}
+use Rattle.std.specs.Prelude.{Some, None, IfSome}
+use Rattle.std.proofs.lemmas.List.{take_all, length-take}
+use Rattle.outside_io.specs.Shelves.{Contents, Fetches}
+use Rattle.tiql_read.specs.declared.query.FirstQuery.{FirstQuery}
+use Rattle.tiql_read.specs.FirstTexts.{IsFirstText}
+use Rattle.tiresias_core.specs.Words.{solve_words}
+use Rattle.tiresias_core.specs.Visits.{Visit, Holds}
+use Rattle.tiresias_core.specs.Causes.{FileStops, TableStops, Asks}
+use Rattle.tiresias_core.specs.declared.reply.FileFault.{FileFault}
+use Rattle.tiresias_core.specs.declared.reply.FileFault.TheVariants as fault
+
+-- a fetch of one byte more than a file may have gives the file where it is short
+pub whole_if_short : (held : Contents) (name bytes : List ℕ) (limit : ℕ) → IfSome held (Fetches bytes name (limit + 1)) → length bytes ≤ limit → IfSome held (λ map. map name ≡ Some bytes)
+whole_if_short None name bytes limit fetched short = tt
+whole_if_short (Some map) name bytes limit fetched short =
+    let cut : bytes ≡ take (limit + 1) fetched.0 = fetched.2 in
+    let size = length-take (limit + 1) fetched.0 in
+    let all : length fetched.0 ≤ limit + 1 = omega (arith, ap length cut, size) in
+    fetched.1 ∙ ap (λ (l : List ℕ). Some l) (sym (cut ∙ take_all (limit + 1) fetched.0 all))
+
+-- and shows where it is too long
+pub long_if_long : (held : Contents) (name bytes : List ℕ) (limit : ℕ) → IfSome held (Fetches bytes name (limit + 1)) → limit < length bytes → (whole : List ℕ) × IfSome held (λ map. map name ≡ Some whole) × (limit < length whole)
+long_if_long None name bytes limit fetched long = (bytes, tt, long)
+long_if_long (Some map) name bytes limit fetched long =
+    (fetched.0, fetched.1, omega (arith, ap length fetched.2, length-take (limit + 1) fetched.0))
+
+pub table_stops : (v : Visit) (query : FirstQuery) (name : List ℕ) (why : FileFault) → FileStops v name why → TableStops v query name why
+table_stops v query name fault.Absent stops = stops
+table_stops v query name fault.ReadFailed stops = stops
+table_stops v query name fault.TooLong stops = stops
+table_stops v query name fault.NotBuilt stops = absurd stops
+
+-- a second call that found what the first one left, seen from before the first
+pub from_before : (held held' : Contents) (misses misses' misses_now faults faults' faults_now : ℕ) → held' ≡ held → misses' ≡ misses → faults' ≡ faults →
+    ◌≡◌ {A = Visit} (record { held = held'; misses = misses'; misses_now = misses_now; faults = faults'; faults_now = faults_now }) (record { held = held; misses = misses; misses_now = misses_now; faults = faults; faults_now = faults_now })
+from_before held held' misses misses' misses_now faults faults' faults_now one two three = cc
+
+abbrev pub asks_of : (words : List (List ℕ)) (v : Visit) (name folder bytes : List ℕ) (nodes : ℕ) (query : FirstQuery) → solve_words words ≡ Some (name, folder, nodes) → Holds v name bytes → IsFirstText bytes query → Asks words v folder query
+asks_of words v name folder bytes nodes query form held spelled = record { name = name; nodes = nodes; form = form; bytes = bytes; held = held; spelled = spelled }

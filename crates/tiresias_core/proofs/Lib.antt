@@ -1,0 +1,4 @@
+pub mod Deciding
+pub mod Pieces
+pub mod Leaving
+pub mod Saying

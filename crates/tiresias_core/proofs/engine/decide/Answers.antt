@@ -1,0 +1,104 @@
+use Rattle.std.proofs.Common.{◌≡◌, ℕ, List, length, ap, sym, ◌∙◌, subst, arith}
+use Rattle.std.specs.Prelude.{Some, string_bytes}
+use Rattle.tiql_read.specs.FirstTexts.{IsFirstText}
+use Rattle.tiql_read.proofs.FirstReading.{first_text-query}
+use Rattle.std.specs.List.{All}
+use Rattle.first_listing.specs.Parts.{Answers}
+use Rattle.tables_csv.specs.Tables.{IsFirstTable, HasNumbers}
+use Rattle.tables_csv.proofs.FirstTables.{first_table-numbers}
+use Rattle.world_def.specs.First.{Rows}
+use Rattle.tiresias_core.specs.Words.{table_path}
+use Rattle.tiresias_core.specs.Visits.{Visit, Holds, visit}
+use Rattle.tiresias_core.specs.Causes.{TableStops, FileStops, StopsFetch}
+use Rattle.tiresias_core.specs.declared.fetch.Stop.{Stop}
+use Rattle.tiresias_core.specs.declared.reply.FileFault.{FileFault}
+use Rattle.tiresias_core.proofs.Deciding.{table_stops, from_before, asks_of}
+use Rattle.tiresias_core.proofs.engine.decide.Goals as goal
+
+pub returns-in-Err-NotBuilt : goal.returns-in-Err-NotBuilt
+returns-in-Err-NotBuilt g c =
+    let name : string_bytes c.in_ok-from_str-in-Err-NotBuilt.field-0 ≡ c.in-Some.name.now = c.in_ok-from_str-in-Err-NotBuilt.ensures.ok in (
+      c.in-Some.folder.now,
+      c.in-Some.nodes,
+      sym c.in-Some.ensures.form ∙ ap (λ (n : List ℕ). Some (n, c.in-Some.folder.now, c.in-Some.nodes)) (sym name),
+      (
+        c.in-Ok.text.items,
+        subst (λ (n : List ℕ). Holds (visit g.S.Shelf.held g.S.Shelf.misses g.S.Shelf.faults c.args.shelf.now c.fetch_file.new.shelf) n c.in-Ok.text.items) (sym name) c.in-Ok.ensures.found,
+        λ query is. c.in-Err-NotBuilt.ensures.not_built (cc (c.in-Err-NotBuilt.field-0-is)) query (subst (λ (l : List ℕ). IsFirstText l query) (sym c.as_slice.ensures.value) is),
+      ),
+    )
+
+pub returns-in-Err-Fault-fetch_file : goal.returns-in-Err-Fault-fetch_file
+returns-in-Err-Fault-fetch_file g c =
+    let v : Visit = visit g.S.Shelf.held g.S.Shelf.misses g.S.Shelf.faults c.args.shelf.now c.fetch_file-2.new.shelf in
+    let same : visit g.S.Shelf.held g.S.Shelf.misses g.S.Shelf.faults c.fetch_file.new.shelf c.fetch_file-2.new.shelf ≡ v =
+    from_before _ _ _ _ _ _ _ _ c.in-Ok.ensures.held c.in-Ok.ensures.misses c.in-Ok.ensures.faults in
+    let spelled : IsFirstText c.in-Ok.text.items c.in-Ok-read_first.query = subst (λ (l : List ℕ). IsFirstText l c.in-Ok-read_first.query) c.as_slice.ensures.value c.in-Ok-read_first.ensures.query in
+    let path : string_bytes c.in_ok-path.path ≡ table_path c.in-Some.folder.now c.in-Ok-read_first.query.table =
+    c.in_ok-path.ensures ∙ ap (table_path c.in-Some.folder.now) c.as_str.ensures.text in (
+      c.in-Some.folder.now,
+      c.in-Ok-read_first.query,
+      asks_of _ v c.in-Some.name.now c.in-Some.folder.now c.in-Ok.text.items c.in-Some.nodes c.in-Ok-read_first.query (sym c.in-Some.ensures.form) c.in-Ok.ensures.found spelled,
+      path,
+      subst (λ (why : FileFault). TableStops v c.in-Ok-read_first.query (string_bytes c.in_ok-path.path) why) (sym c.in-Err-Fault-fetch_file.fault-is) (table_stops v c.in-Ok-read_first.query (string_bytes c.in_ok-path.path) c.in-Err-Fault-fetch_file.fault
+          (subst (λ (n : List ℕ). FileStops v n c.in-Err-Fault-fetch_file.fault) c.as_str-2.ensures.value
+          (subst (λ (w : Visit). FileStops w c.as_str-2.result.now c.in-Err-Fault-fetch_file.fault) same
+          (subst (λ (s : Stop). StopsFetch (visit g.S.Shelf.held g.S.Shelf.misses g.S.Shelf.faults c.fetch_file.new.shelf c.fetch_file-2.new.shelf) c.as_str-2.result.now s) c.in-Err-Fault-fetch_file.field-0-is c.in-Err-Fault-fetch_file.ensures.stop)))),
+    )
+
+pub returns-in-Err-NotBuilt-read_first_table : goal.returns-in-Err-NotBuilt-read_first_table
+returns-in-Err-NotBuilt-read_first_table g c =
+    let v : Visit = visit g.S.Shelf.held g.S.Shelf.misses g.S.Shelf.faults c.args.shelf.now c.fetch_file-2.new.shelf in
+    let same : visit g.S.Shelf.held g.S.Shelf.misses g.S.Shelf.faults c.fetch_file.new.shelf c.fetch_file-2.new.shelf ≡ v =
+    from_before _ _ _ _ _ _ _ _ c.in-Ok.ensures.held c.in-Ok.ensures.misses c.in-Ok.ensures.faults in
+    let spelled : IsFirstText c.in-Ok.text.items c.in-Ok-read_first.query = subst (λ (l : List ℕ). IsFirstText l c.in-Ok-read_first.query) c.as_slice.ensures.value c.in-Ok-read_first.ensures.query in
+    let path : string_bytes c.in_ok-path.path ≡ table_path c.in-Some.folder.now c.in-Ok-read_first.query.table =
+    c.in_ok-path.ensures ∙ ap (table_path c.in-Some.folder.now) c.as_str.ensures.text in (
+      c.in-Some.folder.now,
+      c.in-Ok-read_first.query,
+      asks_of _ v c.in-Some.name.now c.in-Some.folder.now c.in-Ok.text.items c.in-Some.nodes c.in-Ok-read_first.query (sym c.in-Some.ensures.form) c.in-Ok.ensures.found spelled,
+      path,
+      (
+        c.in-Ok-fetch_file.bytes.items,
+        subst (λ (n : List ℕ). Holds v n c.in-Ok-fetch_file.bytes.items) c.as_str-2.ensures.value
+            (subst (λ (w : Visit). Holds w c.as_str-2.result.now c.in-Ok-fetch_file.bytes.items) same c.in-Ok-fetch_file.ensures.found),
+        λ rows is. c.in-Err-NotBuilt-read_first_table.ensures.not_built (cc (c.in-Err-NotBuilt-read_first_table.field-0-is)) rows
+            (subst (λ (l : List ℕ). IsFirstTable l c.as_slice-3.result.now rows) (sym c.as_slice-2.ensures.value) (subst (λ (l : List (List ℕ)). IsFirstTable c.in-Ok-fetch_file.bytes.items l rows) (sym c.as_slice-3.ensures) is)),
+      ),
+    )
+
+pub answer_first-requires-clause-query : goal.answer_first-requires-clause-query
+answer_first-requires-clause-query g c = first_text-query _ _ c.in-Ok-read_first.ensures.query
+
+pub answer_first-requires-clause-table : goal.answer_first-requires-clause-table
+answer_first-requires-clause-table g c =
+    subst (λ (l : Rows). All (HasNumbers (length c.in-Ok-read_first.query.columns)) l) (sym c.as_slice-4.ensures)
+    (subst (λ (l : List (List ℕ)). All (HasNumbers (length l)) c.in-Ok-read_first_table.rows) c.as_slice-3.ensures
+    (first_table-numbers c.as_slice-2.result.now c.as_slice-3.result.now c.in-Ok-read_first_table.rows c.in-Ok-read_first_table.ensures.table))
+
+pub answer_first-requires-clause-few : goal.answer_first-requires-clause-few
+answer_first-requires-clause-few g c = let rows = c.as_slice-4.ensures in let few = c.in-Ok-read_first_table.ensures.table.few in omega (arith, ap length rows)
+
+pub returns : goal.returns
+returns g c =
+    let v : Visit = visit g.S.Shelf.held g.S.Shelf.misses g.S.Shelf.faults c.args.shelf.now c.fetch_file-2.new.shelf in
+    let same : visit g.S.Shelf.held g.S.Shelf.misses g.S.Shelf.faults c.fetch_file.new.shelf c.fetch_file-2.new.shelf ≡ v =
+    from_before _ _ _ _ _ _ _ _ c.in-Ok.ensures.held c.in-Ok.ensures.misses c.in-Ok.ensures.faults in
+    let spelled : IsFirstText c.in-Ok.text.items c.in-Ok-read_first.query = subst (λ (l : List ℕ). IsFirstText l c.in-Ok-read_first.query) c.as_slice.ensures.value c.in-Ok-read_first.ensures.query in
+    let path : string_bytes c.in_ok-path.path ≡ table_path c.in-Some.folder.now c.in-Ok-read_first.query.table =
+    c.in_ok-path.ensures ∙ ap (table_path c.in-Some.folder.now) c.as_str.ensures.text in
+    let table : IsFirstTable c.in-Ok-fetch_file.bytes.items c.in-Ok-read_first.query.columns c.in-Ok-read_first_table.rows =
+    subst (λ (l : List ℕ). IsFirstTable l c.in-Ok-read_first.query.columns c.in-Ok-read_first_table.rows) c.as_slice-2.ensures.value
+    (subst (λ (l : List (List ℕ)). IsFirstTable c.as_slice-2.result.now l c.in-Ok-read_first_table.rows) c.as_slice-3.ensures c.in-Ok-read_first_table.ensures.table) in (
+      c.in-Ok-read_first.query,
+      c.in-Ok-read_first_table.rows,
+      record {
+        folder = c.in-Some.folder.now;
+        asks = asks_of _ v c.in-Some.name.now c.in-Some.folder.now c.in-Ok.text.items c.in-Some.nodes c.in-Ok-read_first.query (sym c.in-Some.ensures.form) c.in-Ok.ensures.found spelled;
+        bytes = c.in-Ok-fetch_file.bytes.items;
+        held = subst (λ (n : List ℕ). Holds v n c.in-Ok-fetch_file.bytes.items) path (subst (λ (n : List ℕ). Holds v n c.in-Ok-fetch_file.bytes.items) c.as_str-2.ensures.value
+            (subst (λ (w : Visit). Holds w c.as_str-2.result.now c.in-Ok-fetch_file.bytes.items) same c.in-Ok-fetch_file.ensures.found));
+        table = table;
+      },
+      subst (λ (l : Rows). Answers c.in-Ok-read_first.query l c.in-Some.nodes c.in_ok-answer_first.field-0) c.as_slice-4.ensures c.in_ok-answer_first.ensures,
+    )

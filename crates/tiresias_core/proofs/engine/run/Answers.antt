@@ -1,0 +1,37 @@
+use Rattle.std.proofs.Common.{map}
+use Rattle.std.specs.Prelude.{string_bytes}
+use Rattle.tiresias_core.specs.Visits.{visit}
+use Rattle.tiresias_core.proofs.Saying.{done_says, impossible_says, unfinished_says, words_says, query_says, tables_says, read_says, write_says}
+use Rattle.tiresias_core.proofs.engine.run.Goals as goal
+
+pub returns-clause-done : goal.returns-clause-done
+returns-clause-done g c = done_says (map (λ word. string_bytes word) c.args.words.now) (visit g.S.Shelf.held g.S.Shelf.misses g.S.Shelf.faults c.args.shelf.now c.respond.new.shelf)
+    (g.K.Sink.written c.args.out.now) (g.K.Sink.written c.respond.new.out) (g.K.Sink.faults c.args.out.now) (g.K.Sink.faults c.respond.new.out) _ c.respond.ensures
+
+pub returns-clause-impossible : goal.returns-clause-impossible
+returns-clause-impossible g c = impossible_says (map (λ word. string_bytes word) c.args.words.now) (visit g.S.Shelf.held g.S.Shelf.misses g.S.Shelf.faults c.args.shelf.now c.respond.new.shelf)
+    (g.K.Sink.written c.args.out.now) (g.K.Sink.written c.respond.new.out) (g.K.Sink.faults c.args.out.now) (g.K.Sink.faults c.respond.new.out) _ c.respond.ensures
+
+pub returns-clause-unfinished : goal.returns-clause-unfinished
+returns-clause-unfinished g c = unfinished_says (map (λ word. string_bytes word) c.args.words.now) (visit g.S.Shelf.held g.S.Shelf.misses g.S.Shelf.faults c.args.shelf.now c.respond.new.shelf)
+    (g.K.Sink.written c.args.out.now) (g.K.Sink.written c.respond.new.out) (g.K.Sink.faults c.args.out.now) (g.K.Sink.faults c.respond.new.out) _ c.respond.ensures
+
+pub returns-clause-words : goal.returns-clause-words
+returns-clause-words g c = words_says (map (λ word. string_bytes word) c.args.words.now) (visit g.S.Shelf.held g.S.Shelf.misses g.S.Shelf.faults c.args.shelf.now c.respond.new.shelf)
+    (g.K.Sink.written c.args.out.now) (g.K.Sink.written c.respond.new.out) (g.K.Sink.faults c.args.out.now) (g.K.Sink.faults c.respond.new.out) _ c.respond.ensures
+
+pub returns-clause-query : goal.returns-clause-query
+returns-clause-query g c = query_says (map (λ word. string_bytes word) c.args.words.now) (visit g.S.Shelf.held g.S.Shelf.misses g.S.Shelf.faults c.args.shelf.now c.respond.new.shelf)
+    (g.K.Sink.written c.args.out.now) (g.K.Sink.written c.respond.new.out) (g.K.Sink.faults c.args.out.now) (g.K.Sink.faults c.respond.new.out) _ c.respond.ensures
+
+pub returns-clause-tables : goal.returns-clause-tables
+returns-clause-tables g c = tables_says (map (λ word. string_bytes word) c.args.words.now) (visit g.S.Shelf.held g.S.Shelf.misses g.S.Shelf.faults c.args.shelf.now c.respond.new.shelf)
+    (g.K.Sink.written c.args.out.now) (g.K.Sink.written c.respond.new.out) (g.K.Sink.faults c.args.out.now) (g.K.Sink.faults c.respond.new.out) _ c.respond.ensures
+
+pub returns-clause-read : goal.returns-clause-read
+returns-clause-read g c = read_says (map (λ word. string_bytes word) c.args.words.now) (visit g.S.Shelf.held g.S.Shelf.misses g.S.Shelf.faults c.args.shelf.now c.respond.new.shelf)
+    (g.K.Sink.written c.args.out.now) (g.K.Sink.written c.respond.new.out) (g.K.Sink.faults c.args.out.now) (g.K.Sink.faults c.respond.new.out) _ c.respond.ensures
+
+pub returns-clause-write : goal.returns-clause-write
+returns-clause-write g c = write_says (map (λ word. string_bytes word) c.args.words.now) (visit g.S.Shelf.held g.S.Shelf.misses g.S.Shelf.faults c.args.shelf.now c.respond.new.shelf)
+    (g.K.Sink.written c.args.out.now) (g.K.Sink.written c.respond.new.out) (g.K.Sink.faults c.args.out.now) (g.K.Sink.faults c.respond.new.out) _ c.respond.ensures

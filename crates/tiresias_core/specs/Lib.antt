@@ -1,0 +1,7 @@
+pub mod Causes
+pub mod Pieces
+pub mod Replies
+pub mod Results
+pub mod Runs
+pub mod Visits
+pub mod Words

@@ -1,0 +1,96 @@
+//! The run: what is asked is read, answered, and written.
+
+ghost use Rattle.std.specs.Prelude.{◌≡◌, None, IfOk, map, string_bytes};
+ghost use Rattle.outside_io.specs.Counts.{Rose};
+ghost use Rattle.tiresias_core.specs.Causes.{IsReply};
+ghost use Rattle.tiresias_core.specs.Results.{WroteBest, WroteNone, WroteUnfinished, WroteNoQuery, WroteNoTable, WroteUnread};
+ghost use Rattle.tiresias_core.specs.Runs.{Leaves, Tells};
+ghost use Rattle.tiresias_core.specs.Words.{solve_words};
+ghost use Rattle.tiresias_core.specs.Visits.{visit};
+
+use crate::fetch::{Stop, fetch_file};
+use crate::reply::{FileFault, Reply, status_of, text_of};
+use crate::words::{solve_form, table_path};
+use crate::write::write_text;
+use base_kit::{Memory, Status};
+use first_listing::answer_first;
+use outside_io::{Shelf, Sink, SinkFault};
+use std::alloc::Global;
+use tables_csv::{FirstTableFault, read_first_table};
+use tiql_read::{FirstFault, read_first};
+
+/// Does all that the program does: takes the words after its name, fetches from the shelf, and
+/// writes to the sink (docs/ANSWERS.md).
+pub fn run<S: Shelf, K: Sink>(alloc: Global, words: &[String], shelf: &mut S, out: &mut K) -> Status
+    ensures done { result ≡ Status.Done → WroteBest (map (λ word. string_bytes word) words.now) (visit S.held S.misses S.faults shelf.old shelf.new) (K.written out.old) (K.written out.new) }
+    ensures impossible { result ≡ Status.Impossible → WroteNone (map (λ word. string_bytes word) words.now) (visit S.held S.misses S.faults shelf.old shelf.new) (K.written out.old) (K.written out.new) }
+    ensures unfinished { result ≡ Status.Unfinished → WroteUnfinished (map (λ word. string_bytes word) words.now) (visit S.held S.misses S.faults shelf.old shelf.new) (K.written out.old) (K.written out.new) }
+    ensures words { result ≡ Status.Words → solve_words (map (λ word. string_bytes word) words.now) ≡ None }
+    ensures query { result ≡ Status.Query → WroteNoQuery (map (λ word. string_bytes word) words.now) (visit S.held S.misses S.faults shelf.old shelf.new) (K.written out.old) (K.written out.new) }
+    ensures tables { result ≡ Status.Tables → WroteNoTable (map (λ word. string_bytes word) words.now) (visit S.held S.misses S.faults shelf.old shelf.new) (K.written out.old) (K.written out.new) }
+    ensures read { result ≡ Status.Read → WroteUnread (map (λ word. string_bytes word) words.now) (visit S.held S.misses S.faults shelf.old shelf.new) (K.written out.old) (K.written out.new) }
+    ensures write { result ≡ Status.Write → Rose (K.faults out.old) (K.faults out.new) }
+
+    // All of it: which reply, with which cause, was written whole, cut, or in whole pieces.
+    ensures leaves { Leaves (map (λ word. string_bytes word) words.now) (visit S.held S.misses S.faults shelf.old shelf.new) (K.written out.old) (K.written out.new) (K.faults out.old) (K.faults out.new) result }
+{
+    respond(alloc, words, shelf, out)
+}
+
+/// Decides the reply, and writes it.
+fn respond<S: Shelf, K: Sink>(alloc: Global, words: &[String], shelf: &mut S, out: &mut K) -> Status
+    ensures { Leaves (map (λ word. string_bytes word) words.now) (visit S.held S.misses S.faults shelf.old shelf.new) (K.written out.old) (K.written out.new) (K.faults out.old) (K.faults out.new) result }
+{
+    match decide(alloc, words, shelf) {
+        Ok(reply) => tell(alloc, &reply, out),
+        Err(_) => Status::Memory,
+    }
+}
+
+/// Writes the whole text of a reply, and gives its status.
+fn tell<K: Sink>(alloc: Global, reply: &Reply, out: &mut K) -> Status
+    ensures { Tells reply.now (K.written out.old) (K.written out.new) (K.faults out.old) (K.faults out.new) result }
+{
+    let text = match text_of(alloc, reply) {
+        Ok(text) => text,
+        Err(_) => return Status::Memory,
+    };
+    match write_text(alloc, out, text.as_slice()) {
+        Ok(()) => status_of(reply),
+        Err(SinkFault::Failed) => Status::Write,
+        Err(SinkFault::Memory) => Status::Memory,
+    }
+}
+
+/// Reads what is asked, and answers it.
+fn decide<S: Shelf>(alloc: Global, words: &[String], shelf: &mut S) -> Result<Reply, Memory>
+    ensures { IfOk result (IsReply (map (λ word. string_bytes word) words.now) (visit S.held S.misses S.faults shelf.old shelf.new)) }
+{
+    let Some((name, folder, nodes)) = solve_form(words) else {
+        return Ok(Reply::Words);
+    };
+    let text = match fetch_file(alloc, shelf, name) {
+        Ok(text) => text,
+        Err(Stop::Fault(fault)) => return Ok(Reply::Query(fault, String::from_str(alloc, name)?)),
+        Err(Stop::Memory) => return Err(Memory),
+    };
+    let query = match read_first(alloc, text.as_slice()) {
+        Ok(query) => query,
+        Err(FirstFault::NotBuilt) => {
+            return Ok(Reply::Query(FileFault::NotBuilt, String::from_str(alloc, name)?));
+        }
+        Err(FirstFault::Memory) => return Err(Memory),
+    };
+    let path = table_path(alloc, folder, query.table.as_str())?;
+    let bytes = match fetch_file(alloc, shelf, path.as_str()) {
+        Ok(bytes) => bytes,
+        Err(Stop::Fault(fault)) => return Ok(Reply::Table(fault, path)),
+        Err(Stop::Memory) => return Err(Memory),
+    };
+    let rows = match read_first_table(alloc, bytes.as_slice(), query.columns.as_slice()) {
+        Ok(rows) => rows,
+        Err(FirstTableFault::NotBuilt) => return Ok(Reply::Table(FileFault::NotBuilt, path)),
+        Err(FirstTableFault::Memory) => return Err(Memory),
+    };
+    Ok(Reply::Answered(answer_first(alloc, &query, rows.as_slice(), nodes)?))
+}
