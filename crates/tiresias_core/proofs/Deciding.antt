@@ -8,6 +8,7 @@ use Rattle.tiql_read.specs.FirstTexts.{IsFirstText}
 use Rattle.tiresias_core.specs.Words.{solve_words}
 use Rattle.tiresias_core.specs.Visits.{Visit, Holds}
 use Rattle.tiresias_core.specs.Causes.{FileStops, TableStops, Asks}
+use Rattle.tiresias_core.specs.declared.fetch.TheConstants.{MOST_FILE_BYTES}
 use Rattle.tiresias_core.specs.declared.reply.FileFault.{FileFault}
 use Rattle.tiresias_core.specs.declared.reply.FileFault.TheVariants as fault
 
@@ -37,5 +38,5 @@ pub from_before : (held held' : Contents) (misses misses' misses_now faults faul
     ◌≡◌ {A = Visit} (record { held = held'; misses = misses'; misses_now = misses_now; faults = faults'; faults_now = faults_now }) (record { held = held; misses = misses; misses_now = misses_now; faults = faults; faults_now = faults_now })
 from_before held held' misses misses' misses_now faults faults' faults_now one two three = cc
 
-abbrev pub asks_of : (words : List (List ℕ)) (v : Visit) (name folder bytes : List ℕ) (nodes : ℕ) (query : FirstQuery) → solve_words words ≡ Some (name, folder, nodes) → Holds v name bytes → IsFirstText bytes query → Asks words v folder query
-asks_of words v name folder bytes nodes query form held spelled = record { name = name; nodes = nodes; form = form; bytes = bytes; held = held; spelled = spelled }
+abbrev pub asks_of : (words : List (List ℕ)) (v : Visit) (name folder bytes : List ℕ) (nodes : ℕ) (query : FirstQuery) → solve_words words ≡ Some (name, folder, nodes) → Holds v name bytes → length bytes ≤ MOST_FILE_BYTES → IsFirstText bytes query → Asks words v folder query
+asks_of words v name folder bytes nodes query form held short spelled = record { name = name; nodes = nodes; form = form; bytes = bytes; held = held; short = short; spelled = spelled }

@@ -2,3 +2,4 @@ pub mod Deciding
 pub mod Pieces
 pub mod Leaving
 pub mod Saying
+pub mod Calling

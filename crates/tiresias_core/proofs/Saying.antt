@@ -114,7 +114,7 @@ module _ (words : List (List ℕ)) (v : Visit) (before now : Option (List ℕ)) 
   no_query_of (reply.Query fault.Absent name) is same text = absurd cc
   no_query_of (reply.Query fault.ReadFailed name) is same text = absurd cc
   no_query_of (reply.Query fault.TooLong name) is same text = absurd cc
-  no_query_of (reply.Query fault.NotBuilt name) is same text = record { name = string_bytes name; folder = is.0; nodes = is.1; form = is.2; bytes = is.3.0; held = is.3.1; none = is.3.2; text = text }
+  no_query_of (reply.Query fault.NotBuilt name) is same text = record { name = string_bytes name; folder = is.0; nodes = is.1; form = is.2; bytes = is.3.0; held = is.3.1; none = is.3.3; text = text }
   no_query_of (reply.Table fault.Absent name) is same text = absurd cc
   no_query_of (reply.Table fault.ReadFailed name) is same text = absurd cc
   no_query_of (reply.Table fault.TooLong name) is same text = absurd cc
@@ -136,7 +136,7 @@ module _ (words : List (List ℕ)) (v : Visit) (before now : Option (List ℕ)) 
   no_table_of (reply.Table fault.Absent name) is same text = absurd cc
   no_table_of (reply.Table fault.ReadFailed name) is same text = absurd cc
   no_table_of (reply.Table fault.TooLong name) is same text = absurd cc
-  no_table_of (reply.Table fault.NotBuilt name) is same text = record { query = is.1; folder = is.0; asks = is.2; bytes = is.4.0; held = subst (λ (n : List ℕ). Holds v n is.4.0) is.3 is.4.1; none = is.4.2; text = subst (λ (n : List ℕ). Appends before now (fault_line fault.NotBuilt n)) is.3 text }
+  no_table_of (reply.Table fault.NotBuilt name) is same text = record { query = is.1; folder = is.0; asks = is.2; bytes = is.4.0; held = subst (λ (n : List ℕ). Holds v n is.4.0) is.3 is.4.1; none = is.4.3; text = subst (λ (n : List ℕ). Appends before now (fault_line fault.NotBuilt n)) is.3 text }
   no_table_of (reply.Answered answer) is same text = by_verdict answer.verdict refl same
     where
       by_verdict : (told : Verdict) → answer.verdict ≡ told → status.Tables ≡ verdict_status told → WroteNoTable words v before now

@@ -1,5 +1,5 @@
 -- Why each reply comes.
-use Rattle.std.specs.Prelude.{◌≡◌, ℕ, List, Some, None, string_bytes}
+use Rattle.std.specs.Prelude.{◌≡◌, ◌≤◌, length, ℕ, List, Some, None, string_bytes}
 use Rattle.tiql_read.specs.declared.query.FirstQuery.{FirstQuery}
 use Rattle.tiql_read.specs.FirstTexts.{IsFirstText}
 use Rattle.tables_csv.specs.Tables.{IsFirstTable}
@@ -31,14 +31,14 @@ abbrev pub QueryStops : Visit → List ℕ → FileFault → Type 0
 QueryStops v name fault.Absent = FileStops v name fault.Absent
 QueryStops v name fault.ReadFailed = FileStops v name fault.ReadFailed
 QueryStops v name fault.TooLong = FileStops v name fault.TooLong
-QueryStops v name fault.NotBuilt = (bytes : List ℕ) × Holds v name bytes × ((query : FirstQuery) → IsFirstText bytes query → ⊥)
+QueryStops v name fault.NotBuilt = (bytes : List ℕ) × Holds v name bytes × (length bytes ≤ MOST_FILE_BYTES) × ((query : FirstQuery) → IsFirstText bytes query → ⊥)
 
 -- the table's file is not to be had, or is no first table with the query's columns
 abbrev pub TableStops : Visit → FirstQuery → List ℕ → FileFault → Type 0
 TableStops v query name fault.Absent = FileStops v name fault.Absent
 TableStops v query name fault.ReadFailed = FileStops v name fault.ReadFailed
 TableStops v query name fault.TooLong = FileStops v name fault.TooLong
-TableStops v query name fault.NotBuilt = (bytes : List ℕ) × Holds v name bytes × ((rows : Rows) → IsFirstTable bytes query.columns rows → ⊥)
+TableStops v query name fault.NotBuilt = (bytes : List ℕ) × Holds v name bytes × (length bytes ≤ MOST_FILE_BYTES) × ((rows : Rows) → IsFirstTable bytes query.columns rows → ⊥)
 
 -- the words ask this query of this folder
 pub record Asks (words : List (List ℕ)) (v : Visit) (folder : List ℕ) (query : FirstQuery) : Type 0 where
@@ -47,6 +47,7 @@ pub record Asks (words : List (List ℕ)) (v : Visit) (folder : List ℕ) (query
   pub form : solve_words words ≡ Some (name, folder, nodes)
   pub bytes : List ℕ
   pub held : Holds v name bytes
+  pub short : length bytes ≤ MOST_FILE_BYTES
   pub spelled : IsFirstText bytes query
 
 -- nothing is refused: the query is asked, and these are the table's rows
@@ -55,6 +56,7 @@ pub record Accepted (words : List (List ℕ)) (v : Visit) (query : FirstQuery) (
   pub asks : Asks words v folder query
   pub bytes : List ℕ
   pub held : Holds v (table_path folder query.table) bytes
+  pub short : length bytes ≤ MOST_FILE_BYTES
   pub table : IsFirstTable bytes query.columns rows
 
 -- why each reply comes, with all that stands before it

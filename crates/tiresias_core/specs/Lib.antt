@@ -1,4 +1,5 @@
 pub mod Causes
+pub mod Exact
 pub mod Pieces
 pub mod Replies
 pub mod Results

@@ -18,10 +18,10 @@ verdict_status (verdict.Unfinished nodes parts) = status.Unfinished
 
 -- a file that is read and not understood has the status of its kind; one that is not read has another
 abbrev pub fault_status : Status → FileFault → Status
-fault_status unread fault.Absent = status.Read
-fault_status unread fault.ReadFailed = status.Read
-fault_status unread fault.TooLong = status.Read
-fault_status unread fault.NotBuilt = unread
+fault_status kind fault.Absent = status.Read
+fault_status kind fault.ReadFailed = status.Read
+fault_status kind fault.TooLong = status.Read
+fault_status kind fault.NotBuilt = kind
 
 abbrev pub status_of : Reply → Status
 status_of reply.Words = status.Words

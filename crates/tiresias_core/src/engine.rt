@@ -1,8 +1,14 @@
 //! The run: what is asked is read, answered, and written.
 
-ghost use Rattle.std.specs.Prelude.{◌≡◌, None, IfOk, map, string_bytes};
+ghost use Rattle.std.specs.Prelude.{◌≡◌, ◌≢◌, ◌≤◌, ◌+◌, ◌*◌, None, IfOk, map, string_bytes};
+ghost use Rattle.std.specs.Io.KnownBytes.{Appends};
 ghost use Rattle.outside_io.specs.Counts.{Rose};
-ghost use Rattle.tiresias_core.specs.Causes.{IsReply};
+ghost use Rattle.branch_tree.specs.Listing.{points};
+ghost use Rattle.first_listing.specs.Parts.{root};
+ghost use Rattle.tiql_read.specs.declared.query.FirstQuery.{FirstQuery};
+ghost use Rattle.world_def.specs.First.{Rows, NoneMeets};
+ghost use Rattle.tiresias_core.specs.Causes.{Accepted, IsReply};
+ghost use Rattle.tiresias_core.specs.Exact.{Calls, IsAnswered, IsTold, Refusal, refusal_line, refusal_status};
 ghost use Rattle.tiresias_core.specs.Results.{WroteBest, WroteNone, WroteUnfinished, WroteNoQuery, WroteNoTable, WroteUnread};
 ghost use Rattle.tiresias_core.specs.Runs.{Leaves, Tells};
 ghost use Rattle.tiresias_core.specs.Words.{solve_words};
@@ -30,6 +36,14 @@ pub fn run<S: Shelf, K: Sink>(alloc: Global, words: &[String], shelf: &mut S, ou
     ensures tables { result ≡ Status.Tables → WroteNoTable (map (λ word. string_bytes word) words.now) (visit S.held S.misses S.faults shelf.old shelf.new) (K.written out.old) (K.written out.new) }
     ensures read { result ≡ Status.Read → WroteUnread (map (λ word. string_bytes word) words.now) (visit S.held S.misses S.faults shelf.old shelf.new) (K.written out.old) (K.written out.new) }
     ensures write { result ≡ Status.Write → Rose (K.faults out.old) (K.faults out.new) }
+
+    // Exactly where: what the words and the files call for comes, unless a write failed or memory was wanting.
+    ensures only_words { result ≢ Status.Write → result ≢ Status.Memory → solve_words (map (λ word. string_bytes word) words.now) ≡ None → result ≡ Status.Words }
+    ensures refused { IsTold (visit S.held S.misses S.faults shelf.old shelf.new) → result ≢ Status.Write → result ≢ Status.Memory → (why : Refusal) → Calls (map (λ word. string_bytes word) words.now) (visit S.held S.misses S.faults shelf.old shelf.new) why → (result ≡ refusal_status why) × Appends (K.written out.old) (K.written out.new) (refusal_line why) }
+    ensures answered { IsTold (visit S.held S.misses S.faults shelf.old shelf.new) → result ≢ Status.Write → result ≢ Status.Memory → (query : FirstQuery) → (rows : Rows) → Accepted (map (λ word. string_bytes word) words.now) (visit S.held S.misses S.faults shelf.old shelf.new) query rows → IsAnswered result }
+    ensures none { IsTold (visit S.held S.misses S.faults shelf.old shelf.new) → (query : FirstQuery) → (rows : Rows) → Accepted (map (λ word. string_bytes word) words.now) (visit S.held S.misses S.faults shelf.old shelf.new) query rows → NoneMeets query rows → result ≢ Status.Done }
+    ensures enough { IsTold (visit S.held S.misses S.faults shelf.old shelf.new) → (query : FirstQuery) → (rows : Rows) → (accepted : Accepted (map (λ word. string_bytes word) words.now) (visit S.held S.misses S.faults shelf.old shelf.new) query rows) → 2 * points (root query rows) ≤ accepted.asks.nodes + 1 → result ≢ Status.Unfinished }
+    ensures writes { result ≢ Status.Write → K.faults out.new ≡ K.faults out.old }
 
     // All of it: which reply, with which cause, was written whole, cut, or in whole pieces.
     ensures leaves { Leaves (map (λ word. string_bytes word) words.now) (visit S.held S.misses S.faults shelf.old shelf.new) (K.written out.old) (K.written out.new) (K.faults out.old) (K.faults out.new) result }

@@ -42,14 +42,14 @@ pub(crate) fn status_of(reply: &Reply) -> Status
     }
 }
 
-fn fault_status(unread: Status, fault: FileFault) -> Status
-    ensures { result ≡ spec.fault_status unread fault }
+fn fault_status(kind: Status, fault: FileFault) -> Status
+    ensures { result ≡ spec.fault_status kind fault }
 {
     match fault {
         FileFault::Absent => Status::Read,
         FileFault::ReadFailed => Status::Read,
         FileFault::TooLong => Status::Read,
-        FileFault::NotBuilt => unread,
+        FileFault::NotBuilt => kind,
     }
 }
 

@@ -24,6 +24,7 @@ returns-in-Err-NotBuilt g c =
       (
         c.in-Ok.text.items,
         subst (λ (n : List ℕ). Holds (visit g.S.Shelf.held g.S.Shelf.misses g.S.Shelf.faults c.args.shelf.now c.fetch_file.new.shelf) n c.in-Ok.text.items) (sym name) c.in-Ok.ensures.found,
+        c.in-Ok.ensures.small,
         λ query is. c.in-Err-NotBuilt.ensures.not_built (cc (c.in-Err-NotBuilt.field-0-is)) query (subst (λ (l : List ℕ). IsFirstText l query) (sym c.as_slice.ensures.value) is),
       ),
     )
@@ -38,7 +39,7 @@ returns-in-Err-Fault-fetch_file g c =
     c.in_ok-path.ensures ∙ ap (table_path c.in-Some.folder.now) c.as_str.ensures.text in (
       c.in-Some.folder.now,
       c.in-Ok-read_first.query,
-      asks_of _ v c.in-Some.name.now c.in-Some.folder.now c.in-Ok.text.items c.in-Some.nodes c.in-Ok-read_first.query (sym c.in-Some.ensures.form) c.in-Ok.ensures.found spelled,
+      asks_of _ v c.in-Some.name.now c.in-Some.folder.now c.in-Ok.text.items c.in-Some.nodes c.in-Ok-read_first.query (sym c.in-Some.ensures.form) c.in-Ok.ensures.found c.in-Ok.ensures.small spelled,
       path,
       subst (λ (why : FileFault). TableStops v c.in-Ok-read_first.query (string_bytes c.in_ok-path.path) why) (sym c.in-Err-Fault-fetch_file.fault-is) (table_stops v c.in-Ok-read_first.query (string_bytes c.in_ok-path.path) c.in-Err-Fault-fetch_file.fault
           (subst (λ (n : List ℕ). FileStops v n c.in-Err-Fault-fetch_file.fault) c.as_str-2.ensures.value
@@ -56,12 +57,13 @@ returns-in-Err-NotBuilt-read_first_table g c =
     c.in_ok-path.ensures ∙ ap (table_path c.in-Some.folder.now) c.as_str.ensures.text in (
       c.in-Some.folder.now,
       c.in-Ok-read_first.query,
-      asks_of _ v c.in-Some.name.now c.in-Some.folder.now c.in-Ok.text.items c.in-Some.nodes c.in-Ok-read_first.query (sym c.in-Some.ensures.form) c.in-Ok.ensures.found spelled,
+      asks_of _ v c.in-Some.name.now c.in-Some.folder.now c.in-Ok.text.items c.in-Some.nodes c.in-Ok-read_first.query (sym c.in-Some.ensures.form) c.in-Ok.ensures.found c.in-Ok.ensures.small spelled,
       path,
       (
         c.in-Ok-fetch_file.bytes.items,
         subst (λ (n : List ℕ). Holds v n c.in-Ok-fetch_file.bytes.items) c.as_str-2.ensures.value
             (subst (λ (w : Visit). Holds w c.as_str-2.result.now c.in-Ok-fetch_file.bytes.items) same c.in-Ok-fetch_file.ensures.found),
+        c.in-Ok-fetch_file.ensures.small,
         λ rows is. c.in-Err-NotBuilt-read_first_table.ensures.not_built (cc (c.in-Err-NotBuilt-read_first_table.field-0-is)) rows
             (subst (λ (l : List ℕ). IsFirstTable l c.as_slice-3.result.now rows) (sym c.as_slice-2.ensures.value) (subst (λ (l : List (List ℕ)). IsFirstTable c.in-Ok-fetch_file.bytes.items l rows) (sym c.as_slice-3.ensures) is)),
       ),
@@ -94,10 +96,11 @@ returns g c =
       c.in-Ok-read_first_table.rows,
       record {
         folder = c.in-Some.folder.now;
-        asks = asks_of _ v c.in-Some.name.now c.in-Some.folder.now c.in-Ok.text.items c.in-Some.nodes c.in-Ok-read_first.query (sym c.in-Some.ensures.form) c.in-Ok.ensures.found spelled;
+        asks = asks_of _ v c.in-Some.name.now c.in-Some.folder.now c.in-Ok.text.items c.in-Some.nodes c.in-Ok-read_first.query (sym c.in-Some.ensures.form) c.in-Ok.ensures.found c.in-Ok.ensures.small spelled;
         bytes = c.in-Ok-fetch_file.bytes.items;
         held = subst (λ (n : List ℕ). Holds v n c.in-Ok-fetch_file.bytes.items) path (subst (λ (n : List ℕ). Holds v n c.in-Ok-fetch_file.bytes.items) c.as_str-2.ensures.value
             (subst (λ (w : Visit). Holds w c.as_str-2.result.now c.in-Ok-fetch_file.bytes.items) same c.in-Ok-fetch_file.ensures.found));
+        short = c.in-Ok-fetch_file.ensures.small;
         table = table;
       },
       subst (λ (l : Rows). Answers c.in-Ok-read_first.query l c.in-Some.nodes c.in_ok-answer_first.field-0) c.as_slice-4.ensures c.in_ok-answer_first.ensures,

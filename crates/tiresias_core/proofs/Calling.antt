@@ -1,0 +1,286 @@
+-- Where it is told which files there are, the words and the files call for one reply alone.
+use Rattle.std.proofs.Common.{◌≡◌, ◌≢◌, ℕ, ◌+◌, ◌*◌, ◌≤◌, List, length, refl, sym, ◌∙◌, ap, subst, arith}
+use Rattle.std.specs.Prelude.{Option, Some, None, IfSome, string_bytes}
+use Rattle.std.specs.Io.KnownBytes.{Appends}
+use Rattle.base_kit.specs.declared.status.Status.{Status}
+use Rattle.base_kit.specs.declared.status.Status.TheVariants as status
+use Rattle.outside_io.specs.Shelves.{Contents}
+use Rattle.answer_text.specs.declared.answer.Verdict.{Verdict}
+use Rattle.answer_text.specs.declared.answer.Verdict.TheVariants as verdict
+use Rattle.tiql_read.specs.declared.query.FirstQuery.{FirstQuery}
+use Rattle.tiql_read.specs.FirstTexts.{IsFirstText}
+use Rattle.tiql_read.proofs.FirstReading.{first_text-one}
+use Rattle.tables_csv.specs.Tables.{IsFirstTable}
+use Rattle.tables_csv.proofs.FirstTables.{first_table-one}
+use Rattle.world_def.specs.First.{Rows, IsPossible, Meets, NoneMeets}
+use Rattle.first_listing.specs.Parts.{root}
+use Rattle.branch_tree.specs.Listing.{points}
+use Rattle.branch_tree.proofs.Counting.{worked_below}
+use Rattle.tiresias_core.specs.Words.{solve_words, table_path}
+use Rattle.tiresias_core.specs.Visits.{Visit, Holds, IsLong}
+use Rattle.tiresias_core.specs.Causes.{IsReply, Asks, Accepted, QueryStops, TableStops}
+use Rattle.tiresias_core.specs.Exact.{IsTold, Refusal, of_query, of_table, refusal_status, refusal_line, QueryCalls, TableCalls, Calls, IsAnswered}
+use Rattle.tiresias_core.specs.Replies.{status_of, text_of, fault_line, fault_status, verdict_status}
+use Rattle.tiresias_core.specs.Runs.{Leaves, Wrote}
+use Rattle.tiresias_core.proofs.Saying.{done_says, unfinished_says}
+use Rattle.tiresias_core.specs.declared.fetch.TheConstants.{MOST_FILE_BYTES}
+use Rattle.tiresias_core.specs.declared.reply.Reply.{Reply}
+use Rattle.tiresias_core.specs.declared.reply.Reply.TheVariants as reply
+use Rattle.tiresias_core.specs.declared.reply.FileFault.{FileFault}
+use Rattle.tiresias_core.specs.declared.reply.FileFault.TheVariants as fault
+
+-- the parts of one form
+same_form : (one other : List ℕ × List ℕ × ℕ) → ◌≡◌ {A = Option (List ℕ × List ℕ × ℕ)} (Some one) (Some other) → one ≡ other
+same_form one other e = cc
+
+same_name : (a b c d : List ℕ) (m n : ℕ) → ◌≡◌ {A = Option (List ℕ × List ℕ × ℕ)} (Some (a, c, m)) (Some (b, d, n)) → a ≡ b
+same_name a b c d m n e = ap (λ (form : List ℕ × List ℕ × ℕ). form.0) (same_form (a, c, m) (b, d, n) e)
+
+same_folder : (a b c d : List ℕ) (m n : ℕ) → ◌≡◌ {A = Option (List ℕ × List ℕ × ℕ)} (Some (a, c, m)) (Some (b, d, n)) → c ≡ d
+same_folder a b c d m n e = ap (λ (form : List ℕ × List ℕ × ℕ). form.1) (same_form (a, c, m) (b, d, n) e)
+
+same_nodes : (a b c d : List ℕ) (m n : ℕ) → ◌≡◌ {A = Option (List ℕ × List ℕ × ℕ)} (Some (a, c, m)) (Some (b, d, n)) → m ≡ n
+same_nodes a b c d m n e = ap (λ (form : List ℕ × List ℕ × ℕ). form.2) (same_form (a, c, m) (b, d, n) e)
+
+same_bytes : (a b : List ℕ) → ◌≡◌ {A = Option (List ℕ)} (Some a) (Some b) → a ≡ b
+same_bytes a b e = cc
+
+-- the words alone decide whether they are refused
+module _ (words : List (List ℕ)) (v : Visit) (before now : Option (List ℕ)) (faults faults' : ℕ) where
+  some_form : (form : List ℕ × List ℕ × ℕ) → solve_words words ≡ None → solve_words words ≡ Some form → ⊥
+  some_form form none some = let e = sym none ∙ some in cc
+
+  words_reply : (told : Reply) → IsReply words v told → solve_words words ≡ None → status_of told ≡ status.Words
+  words_reply reply.Words cause none = refl
+  words_reply (reply.Query why at) cause none = absurd (some_form (string_bytes at, cause.0, cause.1) none cause.2)
+  words_reply (reply.Table why at) cause none = absurd (some_form (cause.2.name, cause.0, cause.2.nodes) none cause.2.form)
+  words_reply (reply.Answered answer) cause none = absurd (some_form (cause.2.asks.name, cause.2.folder, cause.2.asks.nodes) none cause.2.asks.form)
+
+  left_whole : (told : Status) → Leaves words v before now faults faults' told → told ≢ status.Write → told ≢ status.Memory → Wrote words v before now faults faults' told
+  left_whole status.Done left whole room = left
+  left_whole status.Impossible left whole room = left
+  left_whole status.Words left whole room = left
+  left_whole status.Query left whole room = left
+  left_whole status.Tables left whole room = left
+  left_whole status.Size left whole room = left
+  left_whole status.Unfinished left whole room = left
+  left_whole status.Read left whole room = left
+  left_whole status.Rejected left whole room = left
+  left_whole status.Unreadable left whole room = left
+  left_whole status.Write left whole room = absurd (whole refl)
+  left_whole status.Memory left whole room = absurd (room refl)
+
+  pub only_words_says : (told : Status) → Leaves words v before now faults faults' told → told ≢ status.Write → told ≢ status.Memory → solve_words words ≡ None → told ≡ status.Words
+  only_words_says told left whole room none = let w = left_whole told left whole room in w.same ∙ words_reply w.reply w.cause none
+
+  -- no write failed, but at one status
+  pub writes_says : (told : Status) → Leaves words v before now faults faults' told → told ≢ status.Write → faults' ≡ faults
+  writes_says status.Done left whole = left.none_failed
+  writes_says status.Impossible left whole = left.none_failed
+  writes_says status.Words left whole = left.none_failed
+  writes_says status.Query left whole = left.none_failed
+  writes_says status.Tables left whole = left.none_failed
+  writes_says status.Size left whole = left.none_failed
+  writes_says status.Unfinished left whole = left.none_failed
+  writes_says status.Read left whole = left.none_failed
+  writes_says status.Rejected left whole = left.none_failed
+  writes_says status.Unreadable left whole = left.none_failed
+  writes_says status.Memory left whole = left.none_failed
+  writes_says status.Write left whole = absurd (whole refl)
+
+module _ (words : List (List ℕ)) (v : Visit) (is : IsTold v) where
+  stands : (name bytes : List ℕ) → Holds v name bytes → is.held name ≡ Some bytes
+  stands name bytes h = subst (λ (c : Contents). IfSome c (λ map. map name ≡ Some bytes)) is.told h
+
+  missing : (name : List ℕ) → IfSome v.held (λ held. held name ≡ None) → is.held name ≡ None
+  missing name h = subst (λ (c : Contents). IfSome c (λ map. map name ≡ None)) is.told h
+
+  one_file : (name a b : List ℕ) → Holds v name a → Holds v name b → a ≡ b
+  one_file name a b one other = same_bytes a b (sym (stands name a one) ∙ stands name b other)
+
+  not_both : (name bytes : List ℕ) → IfSome v.held (λ held. held name ≡ None) → Holds v name bytes → ⊥
+  not_both name bytes gone there = let e = missing name gone in let f = stands name bytes there in cc
+
+  not_long : (name bytes : List ℕ) → IsLong v name MOST_FILE_BYTES → Holds v name bytes → length bytes ≤ MOST_FILE_BYTES → ⊥
+  not_long name bytes long there short = let same = one_file name long.0 bytes long.1 there in omega (arith, ap length same, long.2)
+
+  -- one fault of a file
+  query_fault : (name : List ℕ) (why other : FileFault) → QueryStops v name why → QueryCalls v name other → why ≡ other
+  query_fault name fault.Absent fault.Absent a b = refl
+  query_fault name fault.Absent fault.ReadFailed a b = absurd b
+  query_fault name fault.Absent fault.TooLong a b = absurd (not_both name b.0 a.1 b.1)
+  query_fault name fault.Absent fault.NotBuilt a b = absurd (not_both name b.0 a.1 b.1)
+  query_fault name fault.ReadFailed fault.Absent a b = absurd (is.none_failed a)
+  query_fault name fault.ReadFailed fault.ReadFailed a b = absurd (is.none_failed a)
+  query_fault name fault.ReadFailed fault.TooLong a b = absurd (is.none_failed a)
+  query_fault name fault.ReadFailed fault.NotBuilt a b = absurd (is.none_failed a)
+  query_fault name fault.TooLong fault.Absent a b = absurd (not_both name a.0 b a.1)
+  query_fault name fault.TooLong fault.ReadFailed a b = absurd b
+  query_fault name fault.TooLong fault.TooLong a b = refl
+  query_fault name fault.TooLong fault.NotBuilt a b = absurd (not_long name b.0 a b.1 b.2)
+  query_fault name fault.NotBuilt fault.Absent a b = absurd (not_both name a.0 b a.1)
+  query_fault name fault.NotBuilt fault.ReadFailed a b = absurd b
+  query_fault name fault.NotBuilt fault.TooLong a b = absurd (not_long name a.0 b a.1 a.2)
+  query_fault name fault.NotBuilt fault.NotBuilt a b = refl
+
+  table_fault : (query : FirstQuery) (name : List ℕ) (why other : FileFault) → TableStops v query name why → TableCalls v query name other → why ≡ other
+  table_fault query name fault.Absent fault.Absent a b = refl
+  table_fault query name fault.Absent fault.ReadFailed a b = absurd b
+  table_fault query name fault.Absent fault.TooLong a b = absurd (not_both name b.0 a.1 b.1)
+  table_fault query name fault.Absent fault.NotBuilt a b = absurd (not_both name b.0 a.1 b.1)
+  table_fault query name fault.ReadFailed fault.Absent a b = absurd (is.none_failed a)
+  table_fault query name fault.ReadFailed fault.ReadFailed a b = absurd (is.none_failed a)
+  table_fault query name fault.ReadFailed fault.TooLong a b = absurd (is.none_failed a)
+  table_fault query name fault.ReadFailed fault.NotBuilt a b = absurd (is.none_failed a)
+  table_fault query name fault.TooLong fault.Absent a b = absurd (not_both name a.0 b a.1)
+  table_fault query name fault.TooLong fault.ReadFailed a b = absurd b
+  table_fault query name fault.TooLong fault.TooLong a b = refl
+  table_fault query name fault.TooLong fault.NotBuilt a b = absurd (not_long name b.0 a b.1 b.2)
+  table_fault query name fault.NotBuilt fault.Absent a b = absurd (not_both name a.0 b a.1)
+  table_fault query name fault.NotBuilt fault.ReadFailed a b = absurd b
+  table_fault query name fault.NotBuilt fault.TooLong a b = absurd (not_long name a.0 b a.1 a.2)
+  table_fault query name fault.NotBuilt fault.NotBuilt a b = refl
+
+  query_stop_read : (name bytes : List ℕ) (query : FirstQuery) (why : FileFault) → QueryStops v name why → Holds v name bytes → length bytes ≤ MOST_FILE_BYTES → IsFirstText bytes query → ⊥
+  query_stop_read name bytes query fault.Absent a there short good = not_both name bytes a.1 there
+  query_stop_read name bytes query fault.ReadFailed a there short good = is.none_failed a
+  query_stop_read name bytes query fault.TooLong a there short good = not_long name bytes a there short
+  query_stop_read name bytes query fault.NotBuilt a there short good = a.3 query (subst (λ (l : List ℕ). IsFirstText l query) (one_file name bytes a.0 there a.1) good)
+
+  query_call_read : (name bytes : List ℕ) (query : FirstQuery) (why : FileFault) → QueryCalls v name why → Holds v name bytes → length bytes ≤ MOST_FILE_BYTES → IsFirstText bytes query → ⊥
+  query_call_read name bytes query fault.Absent a there short good = not_both name bytes a there
+  query_call_read name bytes query fault.ReadFailed a there short good = absurd a
+  query_call_read name bytes query fault.TooLong a there short good = not_long name bytes a there short
+  query_call_read name bytes query fault.NotBuilt a there short good = a.3 query (subst (λ (l : List ℕ). IsFirstText l query) (one_file name bytes a.0 there a.1) good)
+
+  table_stop_read : (query : FirstQuery) (name bytes : List ℕ) (rows : Rows) (why : FileFault) → TableStops v query name why → Holds v name bytes → length bytes ≤ MOST_FILE_BYTES → IsFirstTable bytes query.columns rows → ⊥
+  table_stop_read query name bytes rows fault.Absent a there short good = not_both name bytes a.1 there
+  table_stop_read query name bytes rows fault.ReadFailed a there short good = is.none_failed a
+  table_stop_read query name bytes rows fault.TooLong a there short good = not_long name bytes a there short
+  table_stop_read query name bytes rows fault.NotBuilt a there short good = a.3 rows (subst (λ (l : List ℕ). IsFirstTable l query.columns rows) (one_file name bytes a.0 there a.1) good)
+
+  table_call_read : (query : FirstQuery) (name bytes : List ℕ) (rows : Rows) (why : FileFault) → TableCalls v query name why → Holds v name bytes → length bytes ≤ MOST_FILE_BYTES → IsFirstTable bytes query.columns rows → ⊥
+  table_call_read query name bytes rows fault.Absent a there short good = not_both name bytes a there
+  table_call_read query name bytes rows fault.ReadFailed a there short good = absurd a
+  table_call_read query name bytes rows fault.TooLong a there short good = not_long name bytes a there short
+  table_call_read query name bytes rows fault.NotBuilt a there short good = a.3 rows (subst (λ (l : List ℕ). IsFirstTable l query.columns rows) (one_file name bytes a.0 there a.1) good)
+
+  -- the query and the folder that are asked
+  asked_name : (folder folder' : List ℕ) (query query' : FirstQuery) (one : Asks words v folder query) (other : Asks words v folder' query') → one.name ≡ other.name
+  asked_name folder folder' query query' one other = same_name one.name other.name folder folder' one.nodes other.nodes (sym one.form ∙ other.form)
+
+  asked_folder : (folder folder' : List ℕ) (query query' : FirstQuery) → Asks words v folder query → Asks words v folder' query' → folder ≡ folder'
+  asked_folder folder folder' query query' one other = same_folder one.name other.name folder folder' one.nodes other.nodes (sym one.form ∙ other.form)
+
+  asked_query : (folder folder' : List ℕ) (query query' : FirstQuery) → Asks words v folder query → Asks words v folder' query' → query ≡ query'
+  asked_query folder folder' query query' one other =
+      let name = asked_name folder folder' query query' one other in
+      let bytes : one.bytes ≡ other.bytes = one_file other.name one.bytes other.bytes (subst (λ (n : List ℕ). Holds v n one.bytes) name one.held) other.held in
+      first_text-one other.bytes query query' (subst (λ (l : List ℕ). IsFirstText l query) bytes one.spelled) other.spelled
+
+  asked_nodes : (folder folder' : List ℕ) (query query' : FirstQuery) (one : Asks words v folder query) (other : Asks words v folder' query') → one.nodes ≡ other.nodes
+  asked_nodes folder folder' query query' one other = same_nodes one.name other.name folder folder' one.nodes other.nodes (sym one.form ∙ other.form)
+
+  -- a query's file that calls for a refusal is not asked
+  stops_asks : (name folder folder' : List ℕ) (nodes : ℕ) (query : FirstQuery) (why : FileFault) → solve_words words ≡ Some (name, folder, nodes) → QueryStops v name why → Asks words v folder' query → ⊥
+  stops_asks name folder folder' nodes query why form stops asks =
+      let same : name ≡ asks.name = same_name name asks.name folder folder' nodes asks.nodes (sym form ∙ asks.form) in
+      query_stop_read asks.name asks.bytes query why (subst (λ (n : List ℕ). QueryStops v n why) same stops) asks.held asks.short asks.spelled
+
+  calls_asks : (name folder folder' : List ℕ) (nodes : ℕ) (query : FirstQuery) (why : FileFault) → solve_words words ≡ Some (name, folder, nodes) → QueryCalls v name why → Asks words v folder' query → ⊥
+  calls_asks name folder folder' nodes query why form stops asks =
+      let same : name ≡ asks.name = same_name name asks.name folder folder' nodes asks.nodes (sym form ∙ asks.form) in
+      query_call_read asks.name asks.bytes query why (subst (λ (n : List ℕ). QueryCalls v n why) same stops) asks.held asks.short asks.spelled
+
+  -- the table's file of one query
+  path_same : (folder folder' : List ℕ) (query query' : FirstQuery) → Asks words v folder query → Asks words v folder' query' → table_path folder query.table ≡ table_path folder' query'.table
+  path_same folder folder' query query' one other =
+      ap (λ (f : List ℕ). table_path f query.table) (asked_folder folder folder' query query' one other) ∙ ap (λ (q : FirstQuery). table_path folder' q.table) (asked_query folder folder' query query' one other)
+
+  accepted_rows : (query query' : FirstQuery) (rows rows' : Rows) → Accepted words v query rows → Accepted words v query' rows' → rows ≡ rows'
+  accepted_rows query query' rows rows' one other =
+      let path = path_same one.folder other.folder query query' one.asks other.asks in
+      let same = asked_query one.folder other.folder query query' one.asks other.asks in
+      let bytes : one.bytes ≡ other.bytes = one_file (table_path other.folder query'.table) one.bytes other.bytes (subst (λ (n : List ℕ). Holds v n one.bytes) path one.held) other.held in
+      first_table-one other.bytes query'.columns rows rows' (subst (λ (q : FirstQuery). IsFirstTable other.bytes q.columns rows) same (subst (λ (l : List ℕ). IsFirstTable l query.columns rows) bytes one.table)) other.table
+
+  table_stops_accepted : (name folder : List ℕ) (query query' : FirstQuery) (rows : Rows) (why : FileFault) → Asks words v folder query → name ≡ table_path folder query.table → TableStops v query name why → Accepted words v query' rows → ⊥
+  table_stops_accepted name folder query query' rows why asks at stops accepted =
+      let path : name ≡ table_path accepted.folder query'.table = at ∙ path_same folder accepted.folder query query' asks accepted.asks in
+      let same = asked_query folder accepted.folder query query' asks accepted.asks in
+      table_stop_read query' (table_path accepted.folder query'.table) accepted.bytes rows why
+      (subst (λ (q : FirstQuery). TableStops v q (table_path accepted.folder query'.table) why) same (subst (λ (n : List ℕ). TableStops v query n why) path stops)) accepted.held accepted.short accepted.table
+
+  table_calls_accepted : (name folder : List ℕ) (query query' : FirstQuery) (rows : Rows) (why : FileFault) → Asks words v folder query → name ≡ table_path folder query.table → TableCalls v query name why → Accepted words v query' rows → ⊥
+  table_calls_accepted name folder query query' rows why asks at stops accepted =
+      let path : name ≡ table_path accepted.folder query'.table = at ∙ path_same folder accepted.folder query query' asks accepted.asks in
+      let same = asked_query folder accepted.folder query query' asks accepted.asks in
+      table_call_read query' (table_path accepted.folder query'.table) accepted.bytes rows why
+      (subst (λ (q : FirstQuery). TableCalls v q (table_path accepted.folder query'.table) why) same (subst (λ (n : List ℕ). TableCalls v query n why) path stops)) accepted.held accepted.short accepted.table
+
+  none_some : (form : List ℕ × List ℕ × ℕ) → solve_words words ≡ None → solve_words words ≡ Some form → ⊥
+  none_some form none some = let e = sym none ∙ some in cc
+
+  -- the reply is the one that is called for
+  pub reply_called : (told : Reply) → IsReply words v told → (why : Refusal) → Calls words v why → (status_of told ≡ refusal_status why) × (text_of told ≡ refusal_line why)
+  reply_called reply.Words none (of_query why name) calls = absurd (none_some (name, calls.0, calls.1) none calls.2)
+  reply_called reply.Words none (of_table why name) calls = absurd (none_some (calls.2.name, calls.0, calls.2.nodes) none calls.2.form)
+  reply_called (reply.Query why at) cause (of_query other name) calls =
+      let same : string_bytes at ≡ name = same_name (string_bytes at) name cause.0 calls.0 cause.1 calls.1 (sym cause.2 ∙ calls.2) in
+      let fault_is = query_fault name why other (subst (λ (n : List ℕ). QueryStops v n why) same cause.3) calls.3 in
+      (ap (fault_status status.Query) fault_is, ap (λ (f : FileFault). fault_line f (string_bytes at)) fault_is ∙ ap (fault_line other) same)
+  reply_called (reply.Query why at) cause (of_table other name) calls = absurd (stops_asks (string_bytes at) cause.0 calls.0 cause.1 calls.1 why cause.2 cause.3 calls.2)
+  reply_called (reply.Table why at) cause (of_query other name) calls = absurd (calls_asks name calls.0 cause.0 calls.1 cause.1 other calls.2 calls.3 cause.2)
+  reply_called (reply.Table why at) cause (of_table other name) calls =
+      let path : string_bytes at ≡ name = cause.3 ∙ path_same cause.0 calls.0 cause.1 calls.1 cause.2 calls.2 ∙ sym calls.3 in
+      let same = asked_query cause.0 calls.0 cause.1 calls.1 cause.2 calls.2 in
+      let fault_is = table_fault calls.1 name why other (subst (λ (q : FirstQuery). TableStops v q name why) same (subst (λ (n : List ℕ). TableStops v cause.1 n why) path cause.4)) calls.4 in
+      (ap (fault_status status.Tables) fault_is, ap (λ (f : FileFault). fault_line f (string_bytes at)) fault_is ∙ ap (fault_line other) path)
+  reply_called (reply.Answered answer) cause (of_query other name) calls = absurd (calls_asks name calls.0 cause.2.folder calls.1 cause.0 other calls.2 calls.3 cause.2.asks)
+  reply_called (reply.Answered answer) cause (of_table other name) calls = absurd (table_calls_accepted name calls.0 calls.1 cause.0 cause.1 other calls.2 calls.3 calls.4 cause.2)
+
+  -- an accepted query is answered
+  answered_verdict : (told : Verdict) → IsAnswered (verdict_status told)
+  answered_verdict (verdict.Optimal objective worlds parts) = tt
+  answered_verdict (verdict.FalseRow row) = tt
+  answered_verdict (verdict.NoWorld part) = tt
+  answered_verdict (verdict.Unfinished nodes parts) = tt
+
+  pub reply_answered : (told : Reply) → IsReply words v told → (query : FirstQuery) (rows : Rows) → Accepted words v query rows → IsAnswered (status_of told)
+  reply_answered reply.Words none query rows accepted = absurd (none_some (accepted.asks.name, accepted.folder, accepted.asks.nodes) none accepted.asks.form)
+  reply_answered (reply.Query why at) cause query rows accepted = absurd (stops_asks (string_bytes at) cause.0 accepted.folder cause.1 query why cause.2 cause.3 accepted.asks)
+  reply_answered (reply.Table why at) cause query rows accepted = absurd (table_stops_accepted (string_bytes at) cause.0 cause.1 query rows why cause.2 cause.3 cause.4 accepted)
+  reply_answered (reply.Answered answer) cause query rows accepted = answered_verdict answer.verdict
+
+  module _ (before now : Option (List ℕ)) (faults faults' : ℕ) where
+    pub refused_says : (told : Status) → Leaves words v before now faults faults' told → told ≢ status.Write → told ≢ status.Memory → (why : Refusal) → Calls words v why → (told ≡ refusal_status why) × Appends before now (refusal_line why)
+    refused_says told left whole room why calls =
+        let w = left_whole words v before now faults faults' told left whole room in let same = reply_called w.reply w.cause why calls in
+        (w.same ∙ same.0, subst (λ (l : List ℕ). Appends before now l) same.1 w.text)
+
+    pub answered_says : (told : Status) → Leaves words v before now faults faults' told → told ≢ status.Write → told ≢ status.Memory → (query : FirstQuery) (rows : Rows) → Accepted words v query rows → IsAnswered told
+    answered_says told left whole room query rows accepted =
+        let w = left_whole words v before now faults faults' told left whole room in subst IsAnswered (sym w.same) (reply_answered w.reply w.cause query rows accepted)
+
+    -- a budget of one node less than twice the worlds is enough
+    pub enough_says : (told : Status) → Leaves words v before now faults faults' told → (query : FirstQuery) (rows : Rows) (accepted : Accepted words v query rows) → 2 * points (root query rows) ≤ accepted.asks.nodes + 1 → told ≢ status.Unfinished
+    enough_says told left query rows accepted enough same =
+        let w = unfinished_says words v before now faults faults' told left same in
+        let l = w.unfinished.listed in
+        let below = worked_below l.tree (root w.query w.rows) l.listing w.unfinished.undone in
+        let spent = l.spent w.unfinished.undone in
+        let nodes = asked_nodes w.accepted.folder accepted.folder w.query query w.accepted.asks accepted.asks in
+        let one = asked_query w.accepted.folder accepted.folder w.query query w.accepted.asks accepted.asks in
+        let table = accepted_rows w.query query w.rows rows w.accepted accepted in
+        let count : points (root w.query w.rows) ≡ points (root query rows) = ap (λ (q : FirstQuery). points (root q w.rows)) one ∙ ap (λ (r : Rows). points (root query r)) table in
+        omega (arith, below, spent, nodes, count, enough)
+
+    -- where no possible world meets, no answer is optimal
+    pub none_says : (told : Status) → Leaves words v before now faults faults' told → (query : FirstQuery) (rows : Rows) → Accepted words v query rows → NoneMeets query rows → told ≢ status.Done
+    none_says told left query rows accepted none same =
+        let w = done_says words v before now faults faults' told left same in
+        let one = asked_query w.accepted.folder accepted.folder w.query query w.accepted.asks accepted.asks in
+        let table = accepted_rows w.query query w.rows rows w.accepted accepted in
+        none w.optimal.world
+        (subst (λ (q : FirstQuery). IsPossible q rows w.optimal.world) one (subst (λ (r : Rows). IsPossible w.query r w.optimal.world) table w.optimal.best.possible))
+        (subst (λ (q : FirstQuery). Meets q w.optimal.world) one w.optimal.best.meets)
