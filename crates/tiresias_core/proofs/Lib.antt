@@ -3,3 +3,4 @@ pub mod Pieces
 pub mod Leaving
 pub mod Saying
 pub mod Calling
+pub mod Auditing

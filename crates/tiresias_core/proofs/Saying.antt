@@ -1,5 +1,5 @@
 -- What each status says, from what a run leaves.
-use Rattle.std.proofs.Common.{◌≡◌, ℕ, List, refl, subst}
+use Rattle.std.proofs.Common.{◌≡◌, ℕ, List, refl, subst, sym}
 use Rattle.std.specs.Prelude.{Option, None, string_bytes}
 use Rattle.std.specs.Io.KnownBytes.{Appends}
 use Rattle.base_kit.specs.declared.status.Status.{Status}
@@ -8,6 +8,8 @@ use Rattle.outside_io.specs.Counts.{Rose}
 use Rattle.answer_text.specs.declared.answer.Verdict.{Verdict}
 use Rattle.answer_text.specs.declared.answer.Verdict.TheVariants as verdict
 use Rattle.first_listing.specs.Parts.{Tells}
+use Rattle.tiresias_core.proofs.Auditing.{valid_of, valid_optimal, valid_none, valid_row}
+use Rattle.tiresias_core.specs.Valid.{IsValidVerdict}
 use Rattle.tiresias_core.specs.Words.{solve_words}
 use Rattle.tiresias_core.specs.Visits.{Visit, Holds}
 use Rattle.tiresias_core.specs.Causes.{IsReply}
@@ -32,7 +34,7 @@ module _ (words : List (List ℕ)) (v : Visit) (before now : Option (List ℕ)) 
   done_of (reply.Answered answer) is same text = by_verdict answer.verdict refl same
     where
       by_verdict : (told : Verdict) → answer.verdict ≡ told → status.Done ≡ verdict_status told → WroteBest words v before now
-      by_verdict (verdict.Optimal objective worlds parts) at same = record { query = is.0; rows = is.1; accepted = is.2; answer = answer; objective = objective; worlds = worlds; parts = parts; verdict = at; optimal = subst (λ (x : Verdict). Tells is.0 is.1 is.2.asks.nodes x) at is.3.verdict; text = text }
+      by_verdict (verdict.Optimal objective worlds parts) at same = record { query = is.0; rows = is.1; accepted = is.2; answer = answer; objective = objective; worlds = worlds; parts = parts; verdict = at; optimal = subst (λ (x : Verdict). Tells is.0 is.1 is.2.asks.nodes x) at is.3.verdict; valid = valid_of is.0 is.1 is.2.asks.nodes answer is.3 (subst (λ (x : Verdict). IsValidVerdict is.0 is.1 x) (sym at) (valid_optimal is.0 is.1 is.2.asks.nodes objective worlds parts (subst (λ (x : Verdict). Tells is.0 is.1 is.2.asks.nodes x) at is.3.verdict))); text = text }
       by_verdict (verdict.FalseRow row) at same = absurd cc
       by_verdict (verdict.NoWorld part) at same = absurd cc
       by_verdict (verdict.Unfinished nodes parts) at same = absurd cc
@@ -51,8 +53,8 @@ module _ (words : List (List ℕ)) (v : Visit) (before now : Option (List ℕ)) 
     where
       by_verdict : (told : Verdict) → answer.verdict ≡ told → status.Impossible ≡ verdict_status told → WroteNone words v before now
       by_verdict (verdict.Optimal objective worlds parts) at same = absurd cc
-      by_verdict (verdict.FalseRow row) at same = record { query = is.0; rows = is.1; accepted = is.2; none = (subst (λ (x : Verdict). Tells is.0 is.1 is.2.asks.nodes x) at is.3.verdict).none; answer = answer; answers = is.3; text = text }
-      by_verdict (verdict.NoWorld part) at same = record { query = is.0; rows = is.1; accepted = is.2; none = (subst (λ (x : Verdict). Tells is.0 is.1 is.2.asks.nodes x) at is.3.verdict).none; answer = answer; answers = is.3; text = text }
+      by_verdict (verdict.FalseRow row) at same = record { query = is.0; rows = is.1; accepted = is.2; none = (subst (λ (x : Verdict). Tells is.0 is.1 is.2.asks.nodes x) at is.3.verdict).none; answer = answer; answers = is.3; valid = valid_of is.0 is.1 is.2.asks.nodes answer is.3 (subst (λ (x : Verdict). IsValidVerdict is.0 is.1 x) (sym at) (valid_row is.0 is.1 is.2.asks.nodes row (subst (λ (x : Verdict). Tells is.0 is.1 is.2.asks.nodes x) at is.3.verdict))); text = text }
+      by_verdict (verdict.NoWorld part) at same = record { query = is.0; rows = is.1; accepted = is.2; none = (subst (λ (x : Verdict). Tells is.0 is.1 is.2.asks.nodes x) at is.3.verdict).none; answer = answer; answers = is.3; valid = valid_of is.0 is.1 is.2.asks.nodes answer is.3 (subst (λ (x : Verdict). IsValidVerdict is.0 is.1 x) (sym at) (valid_none is.0 is.1 is.2.asks.nodes part (subst (λ (x : Verdict). Tells is.0 is.1 is.2.asks.nodes x) at is.3.verdict))); text = text }
       by_verdict (verdict.Unfinished nodes parts) at same = absurd cc
 
   unfinished_of : (told : Reply) → IsReply words v told → status.Unfinished ≡ status_of told → Appends before now (text_of told) → WroteUnfinished words v before now

@@ -4,5 +4,6 @@ pub mod Pieces
 pub mod Replies
 pub mod Results
 pub mod Runs
+pub mod Valid
 pub mod Visits
 pub mod Words

@@ -12,6 +12,7 @@ use Rattle.tables_csv.specs.Tables.{IsFirstTable}
 use Rattle.world_def.specs.First.{Rows, NoneMeets}
 use Rattle.first_listing.specs.Parts.{Answers, IsOptimal, IsUnfinished}
 use Rattle.tiresias_core.specs.Words.{solve_words, table_path}
+use Rattle.tiresias_core.specs.Valid.{IsValid}
 use Rattle.tiresias_core.specs.Visits.{Visit, Holds, IsAbsent, IsFailed, IsLong}
 use Rattle.tiresias_core.specs.Causes.{Asks, Accepted}
 use Rattle.tiresias_core.specs.Replies.{fault_line}
@@ -19,7 +20,7 @@ use Rattle.tiresias_core.specs.declared.fetch.TheConstants.{MOST_FILE_BYTES}
 use Rattle.tiresias_core.specs.declared.reply.FileFault.{FileFault}
 use Rattle.tiresias_core.specs.declared.reply.FileFault.TheVariants as fault
 
--- the text of an optimal answer: its world is best, and its objective is that world's score
+-- the text of an optimal answer: its world is best, its objective is that world's score, and an audit accepts it
 pub record WroteBest (words : List (List ℕ)) (v : Visit) (before now : Option (List ℕ)) : Type 0 where
   pub query : FirstQuery
   pub rows : Rows
@@ -30,9 +31,10 @@ pub record WroteBest (words : List (List ℕ)) (v : Visit) (before now : Option 
   pub parts : List PartAnswer
   pub verdict : answer.verdict ≡ verdict.Optimal objective worlds parts
   pub optimal : IsOptimal query rows accepted.asks.nodes objective worlds parts
+  pub valid : IsValid query rows answer
   pub text : Appends before now (answer_bytes answer)
 
--- the text of an impossible answer: no possible world meets
+-- the text of an impossible answer: no possible world meets, and an audit accepts it
 pub record WroteNone (words : List (List ℕ)) (v : Visit) (before now : Option (List ℕ)) : Type 0 where
   pub query : FirstQuery
   pub rows : Rows
@@ -40,6 +42,7 @@ pub record WroteNone (words : List (List ℕ)) (v : Visit) (before now : Option 
   pub none : NoneMeets query rows
   pub answer : Answer
   pub answers : Answers query rows accepted.asks.nodes answer
+  pub valid : IsValid query rows answer
   pub text : Appends before now (answer_bytes answer)
 
 -- the text of an unfinished answer: its tree has worked the whole budget, and a node is open

@@ -2,7 +2,7 @@
 
 use crate::run;
 use base_kit::{List, Status, Txt};
-use outside_io::{FailPut, Held, MemoryShelf, MemorySink};
+use outside_io::{FailPut, Held, MemoryShelf, MemorySink, SureShelf, SureSink};
 use std::alloc::Global;
 use std::process::Abort;
 use std::test::Fail;
@@ -18,6 +18,15 @@ const ONE_WORLD: &str =
 
 const MAXIMIZED: &str =
     "TABLE item (id INT, qty INT); HYPO h FROM item SET qty IN 0 .. 3; REQUIRE ALL h HAVE qty >= 2; MAXIMIZE SUM(qty) FROM h;";
+
+const MARKED: &str =
+    "\u{feff}TABLE item (id INT, qty INT); HYPO h FROM item SET qty IN 0 .. 3; REQUIRE ALL h HAVE qty >= 2; MINIMIZE SUM(qty) FROM h;";
+
+const GROUPED: &str =
+    "TABLE item (id INT, qty INT); HYPO h FROM item SET qty IN (0) .. 3; REQUIRE ALL h HAVE qty >= 2; MINIMIZE SUM(qty) FROM h;";
+
+const ANY_MEETS: &str =
+    "TABLE item (id INT, qty INT); HYPO h FROM item SET qty IN 0 .. 3; REQUIRE ALL h HAVE qty >= 0; MINIMIZE SUM(qty) FROM h;";
 
 const TABLE: &str = "id,qty\n1,0\n2,3\n";
 
@@ -245,76 +254,74 @@ fn no_choice_needs_no_part(rt: HostRuntime) -> Result<(), Fail> {
     Ok(())
 }
 
+/// Asserts that the words are refused.
+fn refuses(rt: &impl Abort, alloc: Global, words: &str) -> Result<(), Fail> {
+    ends(
+        rt,
+        alloc,
+        (QUERY, TABLE),
+        words,
+        &[],
+        Status::Words,
+        "refused: words\n",
+    )
+}
+
 #[test]
-fn refusals_are_lines(rt: HostRuntime) -> Result<(), Fail> {
-    let words = "refused: words\n";
-    ends(
+fn other_words_are_refused(rt: HostRuntime) -> Result<(), Fail> {
+    refuses(&rt, rt.alloc(), "")?;
+    refuses(&rt, rt.alloc(), "solve q")?;
+    refuses(&rt, rt.alloc(), "solve q d 0")?;
+    refuses(&rt, rt.alloc(), "solve q d 100001")?;
+    refuses(&rt, rt.alloc(), "solve q d 030")?;
+    refuses(&rt, rt.alloc(), "solve q d +30")?;
+    refuses(&rt, rt.alloc(), "solve q d 10000 tight")?;
+    refuses(&rt, rt.alloc(), "answer q d")?;
+    refuses(&rt, rt.alloc(), "drill 5001")?;
+    refuses(&rt, rt.alloc(), "drill 5")
+}
+
+#[test]
+fn later_commands_are_refused(rt: HostRuntime) -> Result<(), Fail> {
+    refuses(&rt, rt.alloc(), "check q d a")?;
+    refuses(&rt, rt.alloc(), "eval q d a")?;
+    refuses(&rt, rt.alloc(), "explain q d")?;
+    refuses(&rt, rt.alloc(), "why q d")?;
+    refuses(&rt, rt.alloc(), "session q d e")
+}
+
+/// Asserts that the query or the table is of a form that is not built.
+fn not_built(
+    rt: &impl Abort,
+    alloc: Global,
+    files: (&str, &str),
+    status: Status,
+    name: &str,
+) -> Result<(), Fail> {
+    let line = format!(in alloc; "refused: not built {name}\n")?;
+    ends(rt, alloc, files, "solve q d", &[], status, line.as_str())
+}
+
+#[test]
+fn other_forms_are_not_built(rt: HostRuntime) -> Result<(), Fail> {
+    not_built(&rt, rt.alloc(), (MAXIMIZED, TABLE), Status::Query, "q")?;
+    not_built(&rt, rt.alloc(), (MARKED, TABLE), Status::Query, "q")?;
+    not_built(&rt, rt.alloc(), (GROUPED, TABLE), Status::Query, "q")?;
+    not_built(
         &rt,
         rt.alloc(),
-        (QUERY, TABLE),
-        "solve q",
-        &[],
-        Status::Words,
-        words,
-    )?;
-    ends(
-        &rt,
-        rt.alloc(),
-        (QUERY, TABLE),
-        "solve q d 0",
-        &[],
-        Status::Words,
-        words,
-    )?;
-    ends(
-        &rt,
-        rt.alloc(),
-        (QUERY, TABLE),
-        "solve q d 100001",
-        &[],
-        Status::Words,
-        words,
-    )?;
-    ends(
-        &rt,
-        rt.alloc(),
-        (QUERY, TABLE),
-        "solve q d 030",
-        &[],
-        Status::Words,
-        words,
-    )?;
-    ends(
-        &rt,
-        rt.alloc(),
-        (QUERY, TABLE),
-        "check q d a",
-        &[],
-        Status::Words,
-        words,
-    )?;
-    ends(
-        &rt,
-        rt.alloc(),
-        (MAXIMIZED, TABLE),
-        "solve q d",
-        &[],
-        Status::Query,
-        "refused: not built q\n",
-    )?;
-    let letter = "id,qty\n1,x\n";
-    ends(
-        &rt,
-        rt.alloc(),
-        (QUERY, letter),
-        "solve q d",
-        &[],
+        (QUERY, "id,qty\n1,x\n"),
         Status::Tables,
-        "refused: not built d/item.csv\n",
-    )?;
+        "d/item.csv",
+    )
+}
+
+#[test]
+fn absent_files_are_named(rt: HostRuntime) -> Result<(), Fail> {
+    let alloc = rt.alloc();
     ends(
         &rt,
-        rt.alloc(),
+        alloc,
         (QUERY, TABLE),
         "solve x d",
         &[],
@@ -323,13 +330,89 @@ fn refusals_are_lines(rt: HostRuntime) -> Result<(), Fail> {
     )?;
     ends(
         &rt,
-        rt.alloc(),
+        alloc,
         (QUERY, TABLE),
         "solve q e",
         &[],
         Status::Read,
         "refused: absent e/item.csv\n",
-    )?;
+    )
+}
+
+/// A table of so many rows, each with the number 1 to be set.
+fn numbered(alloc: Global, rows: u32) -> Result<String, Fail> {
+    let mut text = String::from_str(alloc, "id,qty\n")?;
+    for row in 0..rows {
+        text.push_str(format!(in alloc; "{row},1\n")?.as_str())?;
+    }
+    Ok(text)
+}
+
+#[test]
+fn a_table_has_at_most_a_hundred_rows(rt: HostRuntime) -> Result<(), Fail> {
+    let alloc = rt.alloc();
+    let most = numbered(alloc, 100)?;
+    let ended = ended(&rt, alloc, (ANY_MEETS, most.as_str()), "solve q d 1")?;
+    assert_eq!(rt; ended, Status::Unfinished);
+    let more = numbered(alloc, 101)?;
+    not_built(
+        &rt,
+        alloc,
+        (ANY_MEETS, more.as_str()),
+        Status::Tables,
+        "d/item.csv",
+    )
+}
+
+#[test]
+fn a_long_file_is_named(rt: HostRuntime) -> Result<(), Fail> {
+    let alloc = rt.alloc();
+    let bytes = vec![in alloc; 32; 16_777_217]?;
+    let mut files_held = List::new(alloc);
+    files_held.push(held(alloc, "q", QUERY)?)?;
+    files_held.push(Held {
+        name: Txt::new(alloc, "d/item.csv")?,
+        bytes: List::from_vec(bytes),
+    })?;
+    assert!(rt; Held::are_distinct(files_held.as_slice()));
+    let mut shelf = MemoryShelf::new(files_held, List::new(alloc));
+    let mut out = MemorySink::new(alloc, List::new(alloc));
+    let words = words_of(alloc, "solve q d")?;
+    let ended = run(alloc, words.as_slice(), &mut shelf, &mut out);
+    assert_eq!(rt; ended, Status::Read);
+    assert_eq!(rt; out.bytes(), b"refused: too long d/item.csv\n".as_slice());
+    Ok(())
+}
+
+/// The status over a shelf and a sink that never fail. That no write failed is proved here, from the clauses of the run.
+fn ended(rt: &impl Abort, alloc: Global, files: (&str, &str), words: &str) -> Result<Status, Fail> {
+    let mut files_held = List::new(alloc);
+    files_held.push(held(alloc, "q", files.0)?)?;
+    files_held.push(held(alloc, "d/item.csv", files.1)?)?;
+    assert!(rt; Held::are_distinct(files_held.as_slice()));
+    let mut shelf = SureShelf::new(files_held);
+    let mut out = SureSink::new(alloc);
+    let words = words_of(alloc, words)?;
+    let status = run(alloc, words.as_slice(), &mut shelf, &mut out);
+    let is_write = status == Status::Write;
+    prove!(!is_write);
+    Ok(status)
+}
+
+#[test]
+fn a_sure_outside_never_fails(rt: HostRuntime) -> Result<(), Fail> {
+    assert_eq!(rt;
+        ended(&rt, rt.alloc(), (QUERY, TABLE), "solve q d")?,
+        Status::Done
+    );
+    assert_eq!(rt;
+        ended(&rt, rt.alloc(), (NONE_MEETS, TABLE), "solve q d 31")?,
+        Status::Impossible
+    );
+    assert_eq!(rt;
+        ended(&rt, rt.alloc(), (NONE_MEETS, TABLE), "solve q d 30")?,
+        Status::Unfinished
+    );
     Ok(())
 }
 
