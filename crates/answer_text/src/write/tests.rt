@@ -17,51 +17,16 @@ fn fixed() -> Node {
     Node::Closed(Leaf::Fixed)
 }
 
-/// Two columns from 0 to 3, parted down to single numbers, with this last leaf.
+/// A column from 0 to 1, parted into its two numbers, with this last leaf.
 fn tree(alloc: Global, last: Leaf) -> Result<Branches, Fail> {
-    let nodes = Vec::from_array(
-        alloc,
-        [
-            split(0, 1),
-            split(0, 0),
-            split(1, 1),
-            split(1, 0),
-            fixed(),
-            fixed(),
-            split(1, 2),
-            fixed(),
-            fixed(),
-            split(1, 1),
-            split(1, 0),
-            fixed(),
-            fixed(),
-            split(1, 2),
-            fixed(),
-            fixed(),
-            split(0, 2),
-            split(1, 1),
-            split(1, 0),
-            fixed(),
-            fixed(),
-            split(1, 2),
-            fixed(),
-            fixed(),
-            split(1, 1),
-            split(1, 0),
-            fixed(),
-            fixed(),
-            split(1, 2),
-            fixed(),
-            Node::Closed(last),
-        ],
-    )?;
+    let nodes = Vec::from_array(alloc, [split(0, 0), fixed(), Node::Closed(last)])?;
     Ok(Branches::from_nodes(List::from_vec(nodes)).ok_or("a tree")?)
 }
 
 fn parts(alloc: Global, best: Option<i128>, last: Leaf) -> Result<List<PartAnswer>, Fail> {
     let part = PartAnswer {
         number: 1,
-        columns: List::from_slice(alloc, &[0, 1])?,
+        columns: List::from_slice(alloc, &[0])?,
         best,
         tree: tree(alloc, last)?,
     };
@@ -82,8 +47,8 @@ fn writes_a_best_world(rt: HostRuntime) -> Result<(), Fail> {
     let alloc = rt.alloc();
     let world = WorldText {
         name: Name::new(alloc, "h")?,
-        rows: 2,
-        bytes: List::from_slice(alloc, b"id,qty\n1,2\n2,2\n".as_slice())?,
+        rows: 1,
+        bytes: List::from_slice(alloc, b"id,qty\n1,4\n".as_slice())?,
     };
     let written = answer(Verdict::Optimal {
         objective: 4,
@@ -91,12 +56,9 @@ fn writes_a_best_world(rt: HostRuntime) -> Result<(), Fail> {
         parts: parts(alloc, Some(4), Leaf::Fixed)?,
     });
     let text = write_answer(alloc, &written.copy(alloc)?)?;
-    let wanted = b"tiresias answer 1\noptimal 4\nprogram 0 0 0\nworld h 2 15\nid,qty\n1,2\n2,2\n\
-        part 1 columns 0 1\nbest 4\nsplit 0 1 plain\nsplit 0 0 plain\nsplit 1 1 plain\nsplit 1 0 plain\n\
-        fixed\nfixed\nsplit 1 2 plain\nfixed\nfixed\nsplit 1 1 plain\nsplit 1 0 plain\nfixed\nfixed\n\
-        split 1 2 plain\nfixed\nfixed\n\
-        split 0 2 plain\nsplit 1 1 plain\nsplit 1 0 plain\nfixed\nfixed\nsplit 1 2 plain\nfixed\nfixed\n\
-        split 1 1 plain\nsplit 1 0 plain\nfixed\nfixed\nsplit 1 2 plain\nfixed\nfixed\nend\n";
+    let wanted =
+        b"tiresias answer 1\noptimal 4\nprogram 0 0 0\nworld h 1 11\nid,qty\n1,4\npart 1 columns 0\nbest 4\n\
+        split 0 0 plain\nfixed\nfixed\nend\n";
     assert_eq!(rt; text.as_slice(), wanted.as_slice());
     Ok(())
 }
@@ -105,16 +67,12 @@ fn writes_a_best_world(rt: HostRuntime) -> Result<(), Fail> {
 fn writes_an_unfinished_answer(rt: HostRuntime) -> Result<(), Fail> {
     let alloc = rt.alloc();
     let written = answer(Verdict::Unfinished {
-        nodes: 30,
+        nodes: 2,
         parts: parts(alloc, Some(4), Leaf::Pending)?,
     });
     let text = write_answer(alloc, &written.copy(alloc)?)?;
-    let wanted = b"tiresias answer 1\nunfinished 30\nprogram 0 0 0\n\
-        part 1 columns 0 1\nbest 4\nsplit 0 1 plain\nsplit 0 0 plain\nsplit 1 1 plain\nsplit 1 0 plain\n\
-        fixed\nfixed\nsplit 1 2 plain\nfixed\nfixed\nsplit 1 1 plain\nsplit 1 0 plain\nfixed\nfixed\n\
-        split 1 2 plain\nfixed\nfixed\n\
-        split 0 2 plain\nsplit 1 1 plain\nsplit 1 0 plain\nfixed\nfixed\nsplit 1 2 plain\nfixed\nfixed\n\
-        split 1 1 plain\nsplit 1 0 plain\nfixed\nfixed\nsplit 1 2 plain\nfixed\nopen\nend\n";
+    let wanted = b"tiresias answer 1\nunfinished 2\nprogram 0 0 0\npart 1 columns 0\nbest 4\n\
+        split 0 0 plain\nfixed\nopen\nend\n";
     assert_eq!(rt; text.as_slice(), wanted.as_slice());
     Ok(())
 }
