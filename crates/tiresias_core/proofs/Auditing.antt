@@ -1,11 +1,10 @@
 -- A finished answer of the listing is one that an audit accepts.
-use Rattle.std.proofs.Common.{◌≡◌, ℕ, ℤ, List, refl, sym, subst}
+use Rattle.std.proofs.Common.{ℕ, ℤ, List, subst}
 use Rattle.std.specs.Prelude.{Option, Some, None, position}
 use Rattle.tiql_read.specs.declared.query.FirstQuery.{FirstQuery}
 use Rattle.branch_tree.specs.Listing.{Closes, has_two}
 use Rattle.answer_text.specs.declared.answer.Answer.{Answer}
 use Rattle.answer_text.specs.declared.answer.PartAnswer.{PartAnswer}
-use Rattle.answer_text.specs.declared.answer.Verdict.{Verdict}
 use Rattle.answer_text.specs.declared.answer.Verdict.TheVariants as verdict
 use Rattle.answer_text.specs.declared.answer.WorldText.{WorldText}
 use Rattle.world_def.specs.First.{Rows, value_of}

@@ -59,6 +59,24 @@ pub record Accepted (words : List (List ℕ)) (v : Visit) (query : FirstQuery) (
   pub short : length bytes ≤ MOST_FILE_BYTES
   pub table : IsFirstTable bytes query.columns rows
 
+-- no fetch failed, unless that is the fault
+abbrev pub KeepsFaults : ℕ → ℕ → FileFault → Type 0
+KeepsFaults before now fault.Absent = now ≡ before
+KeepsFaults before now fault.ReadFailed = Unit {0}
+KeepsFaults before now fault.TooLong = now ≡ before
+KeepsFaults before now fault.NotBuilt = now ≡ before
+
+abbrev pub KeepsStop : ℕ → ℕ → Stop → Type 0
+KeepsStop before now (stop.Fault fault) = KeepsFaults before now fault
+KeepsStop before now stop.Memory = now ≡ before
+
+-- no fetch failed, unless the reply tells it
+abbrev pub NoneFailed : ℕ → ℕ → Reply → Type 0
+NoneFailed before now reply.Words = now ≡ before
+NoneFailed before now (reply.Query fault name) = KeepsFaults before now fault
+NoneFailed before now (reply.Table fault name) = KeepsFaults before now fault
+NoneFailed before now (reply.Answered answer) = now ≡ before
+
 -- why each reply comes, with all that stands before it
 abbrev pub IsReply : List (List ℕ) → Visit → Reply → Type 0
 IsReply words v reply.Words = solve_words words ≡ None

@@ -1,5 +1,5 @@
 -- The answers that an audit accepts, by what stands in them alone.
-use Rattle.std.specs.Prelude.{◌≡◌, ℕ, ℤ, List, [], ◌∷◌, length, position, Option, Some, None, Bool, true}
+use Rattle.std.specs.Prelude.{◌≡◌, ℕ, ℤ, List, [], ◌∷◌, length, position, Option, Some, None, true}
 use Rattle.tiql_read.specs.declared.query.FirstQuery.{FirstQuery}
 use Rattle.branch_tree.specs.Tree.{Tree, preorder}
 use Rattle.branch_tree.specs.Listing.{AreFixed, Closes, has_two, is_done}

@@ -7,7 +7,7 @@ ghost use Rattle.branch_tree.specs.Listing.{points};
 ghost use Rattle.first_listing.specs.Parts.{root};
 ghost use Rattle.tiql_read.specs.declared.query.FirstQuery.{FirstQuery};
 ghost use Rattle.world_def.specs.First.{Rows, NoneMeets};
-ghost use Rattle.tiresias_core.specs.Causes.{Accepted, IsReply};
+ghost use Rattle.tiresias_core.specs.Causes.{Accepted, IsReply, NoneFailed};
 ghost use Rattle.tiresias_core.specs.Exact.{Calls, IsAnswered, IsTold, Refusal, refusal_line, refusal_status};
 ghost use Rattle.tiresias_core.specs.Results.{WroteBest, WroteNone, WroteUnfinished, WroteNoQuery, WroteNoTable, WroteUnread};
 ghost use Rattle.tiresias_core.specs.Runs.{Leaves, Tells};
@@ -43,6 +43,7 @@ pub fn run<S: Shelf, K: Sink>(alloc: Global, words: &[String], shelf: &mut S, ou
     ensures answered { IsTold (visit S.held S.misses S.faults shelf.old shelf.new) → result ≢ Status.Write → result ≢ Status.Memory → (query : FirstQuery) → (rows : Rows) → Accepted (map (λ word. string_bytes word) words.now) (visit S.held S.misses S.faults shelf.old shelf.new) query rows → IsAnswered result }
     ensures none { IsTold (visit S.held S.misses S.faults shelf.old shelf.new) → (query : FirstQuery) → (rows : Rows) → Accepted (map (λ word. string_bytes word) words.now) (visit S.held S.misses S.faults shelf.old shelf.new) query rows → NoneMeets query rows → result ≢ Status.Done }
     ensures enough { IsTold (visit S.held S.misses S.faults shelf.old shelf.new) → (query : FirstQuery) → (rows : Rows) → (accepted : Accepted (map (λ word. string_bytes word) words.now) (visit S.held S.misses S.faults shelf.old shelf.new) query rows) → 2 * points (root query rows) ≤ accepted.asks.nodes + 1 → result ≢ Status.Unfinished }
+    ensures reads { result ≢ Status.Read → result ≢ Status.Write → result ≢ Status.Memory → S.faults shelf.new ≡ S.faults shelf.old }
     ensures writes { result ≢ Status.Write → K.faults out.new ≡ K.faults out.old }
 
     // All of it: which reply, with which cause, was written whole, cut, or in whole pieces.
@@ -53,7 +54,8 @@ pub fn run<S: Shelf, K: Sink>(alloc: Global, words: &[String], shelf: &mut S, ou
 
 /// Decides the reply, and writes it.
 fn respond<S: Shelf, K: Sink>(alloc: Global, words: &[String], shelf: &mut S, out: &mut K) -> Status
-    ensures { Leaves (map (λ word. string_bytes word) words.now) (visit S.held S.misses S.faults shelf.old shelf.new) (K.written out.old) (K.written out.new) (K.faults out.old) (K.faults out.new) result }
+    ensures reads { result ≢ Status.Read → result ≢ Status.Write → result ≢ Status.Memory → S.faults shelf.new ≡ S.faults shelf.old }
+    ensures leaves { Leaves (map (λ word. string_bytes word) words.now) (visit S.held S.misses S.faults shelf.old shelf.new) (K.written out.old) (K.written out.new) (K.faults out.old) (K.faults out.new) result }
 {
     match decide(alloc, words, shelf) {
         Ok(reply) => tell(alloc, &reply, out),
@@ -78,7 +80,8 @@ fn tell<K: Sink>(alloc: Global, reply: &Reply, out: &mut K) -> Status
 
 /// Reads what is asked, and answers it.
 fn decide<S: Shelf>(alloc: Global, words: &[String], shelf: &mut S) -> Result<Reply, Memory>
-    ensures { IfOk result (IsReply (map (λ word. string_bytes word) words.now) (visit S.held S.misses S.faults shelf.old shelf.new)) }
+    ensures kept { IfOk result (NoneFailed (S.faults shelf.old) (S.faults shelf.new)) }
+    ensures cause { IfOk result (IsReply (map (λ word. string_bytes word) words.now) (visit S.held S.misses S.faults shelf.old shelf.new)) }
 {
     let Some((name, folder, nodes)) = solve_form(words) else {
         return Ok(Reply::Words);

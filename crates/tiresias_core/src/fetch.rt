@@ -2,7 +2,7 @@
 
 ghost use Rattle.std.specs.Prelude.{◌≡◌, ℕ, ◌≤◌, length, OnOk, IfOk, IfErr};
 ghost use Rattle.tiresias_core.specs.Visits.{visit, Holds};
-ghost use Rattle.tiresias_core.specs.Causes.{StopsFetch};
+ghost use Rattle.tiresias_core.specs.Causes.{KeepsStop, StopsFetch};
 
 use crate::reply::FileFault;
 use outside_io::{Shelf, ShelfFault};
@@ -29,6 +29,7 @@ pub(crate) fn fetch_file<S: Shelf>(
     ensures faults { OnOk result (S.faults shelf.new ≡ S.faults shelf.old) }
     ensures found { IfOk result (λ bytes. Holds (visit S.held S.misses S.faults shelf.old shelf.new) name.now bytes.items) }
     ensures small { IfOk result (λ bytes. length bytes.items ≤ MOST_FILE_BYTES) }
+    ensures kept { IfErr result (KeepsStop (S.faults shelf.old) (S.faults shelf.new)) }
     ensures stop { IfErr result (StopsFetch (visit S.held S.misses S.faults shelf.old shelf.new) name.now) }
 {
     match shelf.fetch(alloc, name, MOST_FILE_BYTES + 1) {

@@ -9,14 +9,14 @@ use Rattle.tables_csv.proofs.FirstTables.{first_table-numbers}
 use Rattle.world_def.specs.First.{Rows}
 use Rattle.tiresias_core.specs.Words.{table_path}
 use Rattle.tiresias_core.specs.Visits.{Visit, Holds, visit}
-use Rattle.tiresias_core.specs.Causes.{TableStops, FileStops, StopsFetch}
+use Rattle.tiresias_core.specs.Causes.{KeepsFaults, KeepsStop, TableStops, FileStops, StopsFetch}
 use Rattle.tiresias_core.specs.declared.fetch.Stop.{Stop}
 use Rattle.tiresias_core.specs.declared.reply.FileFault.{FileFault}
 use Rattle.tiresias_core.proofs.Deciding.{table_stops, from_before, asks_of}
 use Rattle.tiresias_core.proofs.engine.decide.Goals as goal
 
-pub returns-in-Err-NotBuilt : goal.returns-in-Err-NotBuilt
-returns-in-Err-NotBuilt g c =
+pub returns-in-Err-NotBuilt-clause-cause : goal.returns-in-Err-NotBuilt-clause-cause
+returns-in-Err-NotBuilt-clause-cause g c =
     let name : string_bytes c.in_ok-from_str-in-Err-NotBuilt.field-0 ≡ c.in-Some.name.now = c.in_ok-from_str-in-Err-NotBuilt.ensures.ok in (
       c.in-Some.folder.now,
       c.in-Some.nodes,
@@ -29,8 +29,8 @@ returns-in-Err-NotBuilt g c =
       ),
     )
 
-pub returns-in-Err-Fault-fetch_file : goal.returns-in-Err-Fault-fetch_file
-returns-in-Err-Fault-fetch_file g c =
+pub returns-in-Err-Fault-fetch_file-clause-cause : goal.returns-in-Err-Fault-fetch_file-clause-cause
+returns-in-Err-Fault-fetch_file-clause-cause g c =
     let v : Visit = visit g.S.Shelf.held g.S.Shelf.misses g.S.Shelf.faults c.args.shelf.now c.fetch_file-2.new.shelf in
     let same : visit g.S.Shelf.held g.S.Shelf.misses g.S.Shelf.faults c.fetch_file.new.shelf c.fetch_file-2.new.shelf ≡ v =
     from_before _ _ _ _ _ _ _ _ c.in-Ok.ensures.held c.in-Ok.ensures.misses c.in-Ok.ensures.faults in
@@ -47,8 +47,8 @@ returns-in-Err-Fault-fetch_file g c =
           (subst (λ (s : Stop). StopsFetch (visit g.S.Shelf.held g.S.Shelf.misses g.S.Shelf.faults c.fetch_file.new.shelf c.fetch_file-2.new.shelf) c.as_str-2.result.now s) c.in-Err-Fault-fetch_file.field-0-is c.in-Err-Fault-fetch_file.ensures.stop)))),
     )
 
-pub returns-in-Err-NotBuilt-read_first_table : goal.returns-in-Err-NotBuilt-read_first_table
-returns-in-Err-NotBuilt-read_first_table g c =
+pub returns-in-Err-NotBuilt-read_first_table-clause-cause : goal.returns-in-Err-NotBuilt-read_first_table-clause-cause
+returns-in-Err-NotBuilt-read_first_table-clause-cause g c =
     let v : Visit = visit g.S.Shelf.held g.S.Shelf.misses g.S.Shelf.faults c.args.shelf.now c.fetch_file-2.new.shelf in
     let same : visit g.S.Shelf.held g.S.Shelf.misses g.S.Shelf.faults c.fetch_file.new.shelf c.fetch_file-2.new.shelf ≡ v =
     from_before _ _ _ _ _ _ _ _ c.in-Ok.ensures.held c.in-Ok.ensures.misses c.in-Ok.ensures.faults in
@@ -81,8 +81,8 @@ answer_first-requires-clause-table g c =
 pub answer_first-requires-clause-few : goal.answer_first-requires-clause-few
 answer_first-requires-clause-few g c = let rows = c.as_slice-4.ensures in let few = c.in-Ok-read_first_table.ensures.table.few in omega (arith, ap length rows)
 
-pub returns : goal.returns
-returns g c =
+pub returns-clause-cause : goal.returns-clause-cause
+returns-clause-cause g c =
     let v : Visit = visit g.S.Shelf.held g.S.Shelf.misses g.S.Shelf.faults c.args.shelf.now c.fetch_file-2.new.shelf in
     let same : visit g.S.Shelf.held g.S.Shelf.misses g.S.Shelf.faults c.fetch_file.new.shelf c.fetch_file-2.new.shelf ≡ v =
     from_before _ _ _ _ _ _ _ _ c.in-Ok.ensures.held c.in-Ok.ensures.misses c.in-Ok.ensures.faults in
@@ -105,3 +105,9 @@ returns g c =
       },
       subst (λ (l : Rows). Answers c.in-Ok-read_first.query l c.in-Some.nodes c.in_ok-answer_first.field-0) c.as_slice-4.ensures c.in_ok-answer_first.ensures,
     )
+
+pub returns-in-Err-Fault-fetch_file-clause-kept : goal.returns-in-Err-Fault-fetch_file-clause-kept
+returns-in-Err-Fault-fetch_file-clause-kept g c =
+    subst (λ (why : FileFault). KeepsFaults (g.S.Shelf.faults c.args.shelf.now) (g.S.Shelf.faults c.fetch_file-2.new.shelf) why) (sym c.in-Err-Fault-fetch_file.fault-is)
+    (subst (λ (n : ℕ). KeepsFaults n (g.S.Shelf.faults c.fetch_file-2.new.shelf) c.in-Err-Fault-fetch_file.fault) c.in-Ok.ensures.faults
+    (subst (λ (s : Stop). KeepsStop (g.S.Shelf.faults c.fetch_file.new.shelf) (g.S.Shelf.faults c.fetch_file-2.new.shelf) s) c.in-Err-Fault-fetch_file.field-0-is c.in-Err-Fault-fetch_file.ensures.kept))

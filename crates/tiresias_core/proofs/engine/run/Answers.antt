@@ -7,50 +7,53 @@ use Rattle.tiresias_core.proofs.engine.run.Goals as goal
 
 pub returns-clause-done : goal.returns-clause-done
 returns-clause-done g c = done_says (map (λ word. string_bytes word) c.args.words.now) (visit g.S.Shelf.held g.S.Shelf.misses g.S.Shelf.faults c.args.shelf.now c.respond.new.shelf)
-    (g.K.Sink.written c.args.out.now) (g.K.Sink.written c.respond.new.out) (g.K.Sink.faults c.args.out.now) (g.K.Sink.faults c.respond.new.out) _ c.respond.ensures
+    (g.K.Sink.written c.args.out.now) (g.K.Sink.written c.respond.new.out) (g.K.Sink.faults c.args.out.now) (g.K.Sink.faults c.respond.new.out) _ c.respond.ensures.leaves
 
 pub returns-clause-impossible : goal.returns-clause-impossible
 returns-clause-impossible g c = impossible_says (map (λ word. string_bytes word) c.args.words.now) (visit g.S.Shelf.held g.S.Shelf.misses g.S.Shelf.faults c.args.shelf.now c.respond.new.shelf)
-    (g.K.Sink.written c.args.out.now) (g.K.Sink.written c.respond.new.out) (g.K.Sink.faults c.args.out.now) (g.K.Sink.faults c.respond.new.out) _ c.respond.ensures
+    (g.K.Sink.written c.args.out.now) (g.K.Sink.written c.respond.new.out) (g.K.Sink.faults c.args.out.now) (g.K.Sink.faults c.respond.new.out) _ c.respond.ensures.leaves
 
 pub returns-clause-unfinished : goal.returns-clause-unfinished
 returns-clause-unfinished g c = unfinished_says (map (λ word. string_bytes word) c.args.words.now) (visit g.S.Shelf.held g.S.Shelf.misses g.S.Shelf.faults c.args.shelf.now c.respond.new.shelf)
-    (g.K.Sink.written c.args.out.now) (g.K.Sink.written c.respond.new.out) (g.K.Sink.faults c.args.out.now) (g.K.Sink.faults c.respond.new.out) _ c.respond.ensures
+    (g.K.Sink.written c.args.out.now) (g.K.Sink.written c.respond.new.out) (g.K.Sink.faults c.args.out.now) (g.K.Sink.faults c.respond.new.out) _ c.respond.ensures.leaves
 
 pub returns-clause-words : goal.returns-clause-words
 returns-clause-words g c = words_says (map (λ word. string_bytes word) c.args.words.now) (visit g.S.Shelf.held g.S.Shelf.misses g.S.Shelf.faults c.args.shelf.now c.respond.new.shelf)
-    (g.K.Sink.written c.args.out.now) (g.K.Sink.written c.respond.new.out) (g.K.Sink.faults c.args.out.now) (g.K.Sink.faults c.respond.new.out) _ c.respond.ensures
+    (g.K.Sink.written c.args.out.now) (g.K.Sink.written c.respond.new.out) (g.K.Sink.faults c.args.out.now) (g.K.Sink.faults c.respond.new.out) _ c.respond.ensures.leaves
 
 pub returns-clause-query : goal.returns-clause-query
 returns-clause-query g c = query_says (map (λ word. string_bytes word) c.args.words.now) (visit g.S.Shelf.held g.S.Shelf.misses g.S.Shelf.faults c.args.shelf.now c.respond.new.shelf)
-    (g.K.Sink.written c.args.out.now) (g.K.Sink.written c.respond.new.out) (g.K.Sink.faults c.args.out.now) (g.K.Sink.faults c.respond.new.out) _ c.respond.ensures
+    (g.K.Sink.written c.args.out.now) (g.K.Sink.written c.respond.new.out) (g.K.Sink.faults c.args.out.now) (g.K.Sink.faults c.respond.new.out) _ c.respond.ensures.leaves
 
 pub returns-clause-tables : goal.returns-clause-tables
 returns-clause-tables g c = tables_says (map (λ word. string_bytes word) c.args.words.now) (visit g.S.Shelf.held g.S.Shelf.misses g.S.Shelf.faults c.args.shelf.now c.respond.new.shelf)
-    (g.K.Sink.written c.args.out.now) (g.K.Sink.written c.respond.new.out) (g.K.Sink.faults c.args.out.now) (g.K.Sink.faults c.respond.new.out) _ c.respond.ensures
+    (g.K.Sink.written c.args.out.now) (g.K.Sink.written c.respond.new.out) (g.K.Sink.faults c.args.out.now) (g.K.Sink.faults c.respond.new.out) _ c.respond.ensures.leaves
 
 pub returns-clause-read : goal.returns-clause-read
 returns-clause-read g c = read_says (map (λ word. string_bytes word) c.args.words.now) (visit g.S.Shelf.held g.S.Shelf.misses g.S.Shelf.faults c.args.shelf.now c.respond.new.shelf)
-    (g.K.Sink.written c.args.out.now) (g.K.Sink.written c.respond.new.out) (g.K.Sink.faults c.args.out.now) (g.K.Sink.faults c.respond.new.out) _ c.respond.ensures
+    (g.K.Sink.written c.args.out.now) (g.K.Sink.written c.respond.new.out) (g.K.Sink.faults c.args.out.now) (g.K.Sink.faults c.respond.new.out) _ c.respond.ensures.leaves
 
 pub returns-clause-write : goal.returns-clause-write
 returns-clause-write g c = write_says (map (λ word. string_bytes word) c.args.words.now) (visit g.S.Shelf.held g.S.Shelf.misses g.S.Shelf.faults c.args.shelf.now c.respond.new.shelf)
-    (g.K.Sink.written c.args.out.now) (g.K.Sink.written c.respond.new.out) (g.K.Sink.faults c.args.out.now) (g.K.Sink.faults c.respond.new.out) _ c.respond.ensures
+    (g.K.Sink.written c.args.out.now) (g.K.Sink.written c.respond.new.out) (g.K.Sink.faults c.args.out.now) (g.K.Sink.faults c.respond.new.out) _ c.respond.ensures.leaves
 
 pub returns-clause-only_words : goal.returns-clause-only_words
-returns-clause-only_words g c = λ whole room none. only_words_says (map (λ word. string_bytes word) c.args.words.now) (visit g.S.Shelf.held g.S.Shelf.misses g.S.Shelf.faults c.args.shelf.now c.respond.new.shelf) (g.K.Sink.written c.args.out.now) (g.K.Sink.written c.respond.new.out) (g.K.Sink.faults c.args.out.now) (g.K.Sink.faults c.respond.new.out) _ c.respond.ensures whole room none
+returns-clause-only_words g c = λ whole room none. only_words_says (map (λ word. string_bytes word) c.args.words.now) (visit g.S.Shelf.held g.S.Shelf.misses g.S.Shelf.faults c.args.shelf.now c.respond.new.shelf) (g.K.Sink.written c.args.out.now) (g.K.Sink.written c.respond.new.out) (g.K.Sink.faults c.args.out.now) (g.K.Sink.faults c.respond.new.out) _ c.respond.ensures.leaves whole room none
 
 pub returns-clause-refused : goal.returns-clause-refused
-returns-clause-refused g c = λ told whole room why calls. refused_says (map (λ word. string_bytes word) c.args.words.now) (visit g.S.Shelf.held g.S.Shelf.misses g.S.Shelf.faults c.args.shelf.now c.respond.new.shelf) told (g.K.Sink.written c.args.out.now) (g.K.Sink.written c.respond.new.out) (g.K.Sink.faults c.args.out.now) (g.K.Sink.faults c.respond.new.out) _ c.respond.ensures whole room why calls
+returns-clause-refused g c = λ told whole room why calls. refused_says (map (λ word. string_bytes word) c.args.words.now) (visit g.S.Shelf.held g.S.Shelf.misses g.S.Shelf.faults c.args.shelf.now c.respond.new.shelf) told (g.K.Sink.written c.args.out.now) (g.K.Sink.written c.respond.new.out) (g.K.Sink.faults c.args.out.now) (g.K.Sink.faults c.respond.new.out) _ c.respond.ensures.leaves whole room why calls
 
 pub returns-clause-answered : goal.returns-clause-answered
-returns-clause-answered g c = λ told whole room query rows accepted. answered_says (map (λ word. string_bytes word) c.args.words.now) (visit g.S.Shelf.held g.S.Shelf.misses g.S.Shelf.faults c.args.shelf.now c.respond.new.shelf) told (g.K.Sink.written c.args.out.now) (g.K.Sink.written c.respond.new.out) (g.K.Sink.faults c.args.out.now) (g.K.Sink.faults c.respond.new.out) _ c.respond.ensures whole room query rows accepted
+returns-clause-answered g c = λ told whole room query rows accepted. answered_says (map (λ word. string_bytes word) c.args.words.now) (visit g.S.Shelf.held g.S.Shelf.misses g.S.Shelf.faults c.args.shelf.now c.respond.new.shelf) told (g.K.Sink.written c.args.out.now) (g.K.Sink.written c.respond.new.out) (g.K.Sink.faults c.args.out.now) (g.K.Sink.faults c.respond.new.out) _ c.respond.ensures.leaves whole room query rows accepted
 
 pub returns-clause-none : goal.returns-clause-none
-returns-clause-none g c = λ told query rows accepted none. none_says (map (λ word. string_bytes word) c.args.words.now) (visit g.S.Shelf.held g.S.Shelf.misses g.S.Shelf.faults c.args.shelf.now c.respond.new.shelf) told (g.K.Sink.written c.args.out.now) (g.K.Sink.written c.respond.new.out) (g.K.Sink.faults c.args.out.now) (g.K.Sink.faults c.respond.new.out) _ c.respond.ensures query rows accepted none
+returns-clause-none g c = λ told query rows accepted none. none_says (map (λ word. string_bytes word) c.args.words.now) (visit g.S.Shelf.held g.S.Shelf.misses g.S.Shelf.faults c.args.shelf.now c.respond.new.shelf) told (g.K.Sink.written c.args.out.now) (g.K.Sink.written c.respond.new.out) (g.K.Sink.faults c.args.out.now) (g.K.Sink.faults c.respond.new.out) _ c.respond.ensures.leaves query rows accepted none
 
 pub returns-clause-enough : goal.returns-clause-enough
-returns-clause-enough g c = λ told query rows accepted enough. enough_says (map (λ word. string_bytes word) c.args.words.now) (visit g.S.Shelf.held g.S.Shelf.misses g.S.Shelf.faults c.args.shelf.now c.respond.new.shelf) told (g.K.Sink.written c.args.out.now) (g.K.Sink.written c.respond.new.out) (g.K.Sink.faults c.args.out.now) (g.K.Sink.faults c.respond.new.out) _ c.respond.ensures query rows accepted enough
+returns-clause-enough g c = λ told query rows accepted enough. enough_says (map (λ word. string_bytes word) c.args.words.now) (visit g.S.Shelf.held g.S.Shelf.misses g.S.Shelf.faults c.args.shelf.now c.respond.new.shelf) told (g.K.Sink.written c.args.out.now) (g.K.Sink.written c.respond.new.out) (g.K.Sink.faults c.args.out.now) (g.K.Sink.faults c.respond.new.out) _ c.respond.ensures.leaves query rows accepted enough
 
 pub returns-clause-writes : goal.returns-clause-writes
-returns-clause-writes g c = λ whole. writes_says (map (λ word. string_bytes word) c.args.words.now) (visit g.S.Shelf.held g.S.Shelf.misses g.S.Shelf.faults c.args.shelf.now c.respond.new.shelf) (g.K.Sink.written c.args.out.now) (g.K.Sink.written c.respond.new.out) (g.K.Sink.faults c.args.out.now) (g.K.Sink.faults c.respond.new.out) _ c.respond.ensures whole
+returns-clause-writes g c = λ whole. writes_says (map (λ word. string_bytes word) c.args.words.now) (visit g.S.Shelf.held g.S.Shelf.misses g.S.Shelf.faults c.args.shelf.now c.respond.new.shelf) (g.K.Sink.written c.args.out.now) (g.K.Sink.written c.respond.new.out) (g.K.Sink.faults c.args.out.now) (g.K.Sink.faults c.respond.new.out) _ c.respond.ensures.leaves whole
+
+pub returns-clause-reads : goal.returns-clause-reads
+returns-clause-reads g c = c.respond.ensures.reads
