@@ -1,1 +1,5 @@
+pub mod Answers
+pub mod Blocks
+pub mod Lines
 pub mod Text
+pub mod Tokens

@@ -1,8 +1,15 @@
-//! The text of an answer, as it is written. An answer has one text (docs/ANSWERS.md).
+//! The text of an answer: what a solver writes, and what a checker reads.
+//!
+//! An answer has one text, and a text is that of one answer at most (docs/ANSWERS.md).
 #![tactic(auto)]
 
 mod answer;
+mod blocks;
+mod lines;
+mod read;
+mod tokens;
 mod write;
 
 pub use answer::{Answer, PartAnswer, Verdict, WorldText};
+pub use read::{AnswerFault, read_answer};
 pub use write::write_answer;

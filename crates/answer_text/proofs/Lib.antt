@@ -1,0 +1,12 @@
+pub mod Words
+pub mod Numbers
+pub mod Names
+pub mod Columns
+pub mod Readers
+pub mod Sections
+pub mod TreeText
+pub mod LineTexts
+pub mod Grammar
+pub mod Verdicts
+pub mod AnswerTexts
+pub mod Loops
