@@ -1,4 +1,2 @@
-pub mod Rows
-pub mod Worlds
-pub mod Sizes
+pub mod Counts
 pub mod Tells

@@ -15,9 +15,10 @@ use Rattle.branch_bound.specs.Works.{Lists, IsFromLeaf, best_value}
 use Rattle.answer_text.specs.declared.answer.PartAnswer.{PartAnswer}
 use Rattle.answer_text.specs.declared.answer.Verdict.{Verdict}
 use Rattle.answer_text.specs.declared.answer.Verdict.TheVariants as verdict
-use Rattle.world_def.specs.First.{Rows, IsBest, NoneMeets, filled, value_of}
-use Rattle.first_listing.specs.Parts.{root, count_from, IsReached, IsListed, IsWhole, AreParts, ArePartsFor, IsOf, Tells}
-use Rattle.first_listing.proofs.Worlds.{best_point, none_meets, score_of_value}
+use Rattle.world_def.specs.First.{Rows, IsBest, NoneMeets, filled, value_of, root}
+use Rattle.cert_check.specs.Parts.{count_from}
+use Rattle.first_listing.specs.Parts.{IsReached, IsListed, IsWhole, AreParts, ArePartsFor, IsOf, Tells}
+use Rattle.cert_check.proofs.Worlds.{best_point, none_meets, score_of_value}
 
 none_open : (tree : Tree) → pending_of tree ≡ 0 → is_done tree ≡ true
 none_open (closed leaf.Pending) none = absurd (omega (arith, none))

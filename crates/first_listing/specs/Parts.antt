@@ -1,6 +1,5 @@
 -- The answers to a first query: their one part, their world, and when each verdict is right.
-use Rattle.std.specs.Prelude.{◌≡◌, ◌≤◌, ℕ, zero, suc, ℤ, List, [], ◌∷◌, length, map, Option, Some, None, true, false, position}
-use Rattle.ip_rows.specs.declared.Bounds.{Bounds}
+use Rattle.std.specs.Prelude.{◌≡◌, ◌≤◌, ℕ, ℤ, List, [], ◌∷◌, length, Option, Some, None, IsSome, true, false, position}
 use Rattle.tiql_read.specs.declared.query.FirstQuery.{FirstQuery}
 use Rattle.branch_tree.specs.Tree.{Tree, preorder, worked_of}
 use Rattle.branch_tree.specs.Listing.{AreFixed, has_two, Closes, HasLeaf, IsListing, IsInOrder, is_done}
@@ -9,18 +8,9 @@ use Rattle.answer_text.specs.declared.answer.WorldText.{WorldText}
 use Rattle.answer_text.specs.declared.answer.Answer.{Answer}
 use Rattle.answer_text.specs.declared.answer.Verdict.{Verdict}
 use Rattle.answer_text.specs.declared.answer.Verdict.TheVariants as verdict
-use Rattle.tables_csv.specs.Tables.{IsFirstTable}
-use Rattle.world_def.specs.First.{Rows, IsBest, NoneMeets, score, filled, value_of}
+use Rattle.cert_check.specs.Parts.{IsSection, count_from}
+use Rattle.world_def.specs.First.{Rows, IsBest, NoneMeets, score, filled, root, value_of}
 use Rattle.branch_bound.specs.declared.search.Found.{Found}
-
--- the sides of the set column, for each row of the table
-abbrev pub root : FirstQuery → Rows → List Bounds
-root query table = map (λ row. record { lo = query.lo; hi = query.hi }) table
-
--- so many numbers from one on
-abbrev pub count_from : ℕ → ℕ → List ℕ
-count_from first zero = []
-count_from first (suc count) = first ∷ count_from (suc first) count
 
 -- some leaf of the tree has this value, if there is one
 abbrev pub IsReached : FirstQuery → Rows → Tree → Option ℤ → Type 0
@@ -55,12 +45,6 @@ ArePartsFor query table budget best (Some column) parts = (part : PartAnswer) ×
 abbrev pub AreParts : FirstQuery → Rows → ℕ → Option ℤ → List PartAnswer → Type 0
 AreParts query table budget best parts = ArePartsFor query table budget best (position has_two (root query table)) parts
 
--- the section of the hypothetical table: its bytes are a table of the world's rows
-pub record IsSection (query : FirstQuery) (world : Rows) (text : WorldText) : Type 0 where
-  pub name : text.name ≡ query.hypo
-  pub rows : text.rows ≡ length world
-  pub table : IsFirstTable text.bytes query.columns world
-
 -- an optimal answer: its one section is that of a best world, and its objective is that world's score
 pub record IsOptimal (query : FirstQuery) (table : Rows) (budget : ℕ) (objective : ℤ) (worlds : List WorldText) (parts : List PartAnswer) : Type 0 where
   pub world : Rows
@@ -77,8 +61,9 @@ pub record IsFalseRow (query : FirstQuery) (table : Rows) (row : ℕ) : Type 0 w
   pub fixed : AreFixed (root query table)
   pub none : NoneMeets query table
 
--- an impossible answer with the part that was listed
+-- an impossible answer with the part that was listed: a column has two values, and no leaf has a world that meets
 pub record IsNoWorld (query : FirstQuery) (table : Rows) (budget : ℕ) (part : PartAnswer) : Type 0 where
+  pub several : IsSome (position has_two (root query table))
   pub whole : IsWhole query table budget None part
   pub none : NoneMeets query table
 

@@ -7,7 +7,7 @@ ghost use Rattle.branch_tree.specs.Listing.{InBox, has_two};
 ghost use Rattle.tables_csv.specs.Tables.{HasNumbers};
 ghost use Rattle.tiql_read.specs.FirstTexts.{IsFirstQuery};
 ghost use Rattle.world_def.specs.First as spec;
-ghost use Rattle.first_listing.specs.Parts.{count_from};
+ghost use Rattle.cert_check.specs.Parts.{count_from, IsSection};
 ghost use Rattle.first_listing.specs.Parts as told;
 
 use crate::judge::FirstJudge;
@@ -19,7 +19,7 @@ use ip_rows::Bounds;
 use std::alloc::Global;
 use tables_csv::first_table_text;
 use tiql_read::FirstQuery;
-use world_def::filled;
+use world_def::{filled, root_of};
 
 /// The answer to a first query over a first table, with a budget of worked nodes.
 ///
@@ -70,7 +70,7 @@ fn list_worlds(
     requires table { All (HasNumbers (length query.now.columns)) table.now }
     requires few { length table.now ≤ 100 }
     requires budget { budget < 2 ^ 31 }
-    requires root { root.now ≡ told.root query.now table.now }
+    requires root { root.now ≡ spec.root query.now table.now }
     requires several { IsSome (position has_two root.now) }
     ensures { IfOk result (told.Tells query.now table.now budget) }
 {
@@ -100,7 +100,7 @@ fn judge_world(
     requires query { IsFirstQuery query.now }
     requires table { All (HasNumbers (length query.now.columns)) table.now }
     requires few { length table.now ≤ 100 }
-    requires root { root.now ≡ told.root query.now table.now }
+    requires root { root.now ≡ spec.root query.now table.now }
     requires none { position has_two root.now ≡ None }
     ensures { IfOk result (λ verdict. (budget : ℕ) → told.Tells query.now table.now budget verdict) }
 {
@@ -126,7 +126,7 @@ fn optimal(
     requires query { IsFirstQuery query.now }
     requires table { All (HasNumbers (length query.now.columns)) table.now }
     requires few { length table.now ≤ 100 }
-    requires inside { InBox (told.root query.now table.now) found.point }
+    requires inside { InBox (spec.root query.now table.now) found.point }
     requires value { spec.value_of query.now table.now found.point ≡ Some found.score }
     ensures { IfOk result (told.IsOf query.now table.now found parts) }
 {
@@ -148,8 +148,8 @@ fn section_of(
     requires query { IsFirstQuery query.now }
     requires table { All (HasNumbers (length query.now.columns)) table.now }
     requires few { length table.now ≤ 100 }
-    requires inside { InBox (told.root query.now table.now) point.now }
-    ensures { IfOk result (told.IsSection query.now (spec.filled query.now table.now point.now)) }
+    requires inside { InBox (spec.root query.now table.now) point.now }
+    ensures { IfOk result (IsSection query.now (spec.filled query.now table.now point.now)) }
 {
     let world = filled(alloc, query, table, point)?;
     let bytes = first_table_text(alloc, query.columns.as_slice(), world.as_slice())?;
@@ -177,20 +177,6 @@ fn one_of<T: Drop>(alloc: Global, item: T) -> Result<List<T>, Memory>
     let mut items = List::new(alloc);
     items.push(item)?;
     Ok(items)
-}
-
-/// The sides of the set column, for each row of the table.
-fn root_of(alloc: Global, query: &FirstQuery, table: &[Row]) -> Result<Vec<Bounds>, Memory>
-    ensures { IfOk result (λ sides. sides.items ≡ told.root query.now table.now) }
-{
-    let mut sides = Vec::new(alloc);
-    for _row in table {
-        sides.push(Bounds {
-            lo: query.lo,
-            hi: query.hi,
-        })?;
-    }
-    Ok(sides)
 }
 
 /// So many numbers from 0 on.

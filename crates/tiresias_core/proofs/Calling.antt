@@ -1,6 +1,6 @@
 -- Where it is told which files there are, the words and the files call for one reply alone.
-use Rattle.std.proofs.Common.{◌≡◌, ◌≢◌, ℕ, ◌+◌, ◌*◌, ◌≤◌, List, length, refl, sym, ◌∙◌, ap, subst, arith}
-use Rattle.std.specs.Prelude.{Option, Some, None, IfSome, string_bytes}
+use Rattle.std.proofs.Common.{◌≡◌, ◌≢◌, ◌⊎◌, ℕ, ◌+◌, ◌*◌, ◌≤◌, ◌≤ℤ◌, List, length, inl, inr, refl, sym, ◌∙◌, ap, subst, arith}
+use Rattle.std.specs.Prelude.{Option, Some, None, Ok, Err, IfSome, string_bytes}
 use Rattle.std.specs.Io.KnownBytes.{Appends}
 use Rattle.base_kit.specs.declared.status.Status.{Status}
 use Rattle.base_kit.specs.declared.status.Status.TheVariants as status
@@ -9,52 +9,67 @@ use Rattle.answer_text.specs.declared.answer.Verdict.{Verdict}
 use Rattle.answer_text.specs.declared.answer.Verdict.TheVariants as verdict
 use Rattle.tiql_read.specs.declared.query.FirstQuery.{FirstQuery}
 use Rattle.tiql_read.specs.FirstTexts.{IsFirstText}
-use Rattle.tiql_read.proofs.FirstReading.{first_text-one}
+use Rattle.tiql_read.proofs.FirstReading.{first_text-one, first_text-query}
+use Rattle.answer_text.specs.Answers.{AnswerText, IsStop, line_of}
+use Rattle.answer_text.specs.declared.answer.Answer.{Answer}
+use Rattle.answer_text.proofs.AnswerTexts.{one_answer}
+use Rattle.cert_check.specs.Reasons.{IsOutcome, Outcome}
+use Rattle.cert_check.specs.Valid.{IsValid}
+use Rattle.cert_check.specs.declared.fault.CheckFault.TheVariants as wrong
+use Rattle.cert_check.proofs.Accepted.{one_outcome, valid_accepted}
 use Rattle.tables_csv.specs.Tables.{IsFirstTable}
 use Rattle.tables_csv.proofs.FirstTables.{first_table-one}
-use Rattle.world_def.specs.First.{Rows, IsPossible, Meets, NoneMeets}
-use Rattle.first_listing.specs.Parts.{root}
+use Rattle.world_def.specs.First.{Rows, IsPossible, Meets, NoneMeets, root}
 use Rattle.branch_tree.specs.Listing.{points}
 use Rattle.branch_tree.proofs.Counting.{worked_below}
-use Rattle.tiresias_core.specs.Words.{solve_words, table_path}
+use Rattle.tiresias_core.specs.Words.{Command, Form, solve, check, form_of, table_path}
 use Rattle.tiresias_core.specs.Visits.{Visit, Holds, IsLong}
-use Rattle.tiresias_core.specs.Causes.{IsReply, Asks, Accepted, QueryStops, TableStops}
-use Rattle.tiresias_core.specs.Exact.{IsTold, Refusal, of_query, of_table, refusal_status, refusal_line, QueryCalls, TableCalls, Calls, IsAnswered}
-use Rattle.tiresias_core.specs.Replies.{status_of, text_of, fault_line, fault_status, verdict_status}
+use Rattle.tiresias_core.specs.Causes.{IsReply, Asks, Accepted, FileStops, QueryStops, TableStops, Audits, Reads, IsUnreadable}
+use Rattle.tiresias_core.specs.Exact.{IsTold, Refusal, of_query, of_table, of_answer, of_line, refusal_status, refusal_line, outcome_status, outcome_line, QueryCalls, TableCalls, AnswerCalls, LineCalls, Calls, IsAnswered}
+use Rattle.tiresias_core.specs.Replies.{status_of, text_of, fault_line, fault_status, accepted_line, unreadable_line, verdict_status}
+use Rattle.tiresias_core.specs.Results.{WroteAccepted, WroteBest}
+use Rattle.tiresias_core.specs.Verdicts.{objective_of}
 use Rattle.tiresias_core.specs.Runs.{Leaves, Wrote}
 use Rattle.tiresias_core.proofs.Saying.{done_says, unfinished_says}
-use Rattle.tiresias_core.specs.declared.fetch.TheConstants.{MOST_FILE_BYTES}
+use Rattle.tiresias_core.specs.declared.fetch.TheConstants.{MOST_FILE_BYTES, MOST_ANSWER_BYTES}
 use Rattle.tiresias_core.specs.declared.reply.Reply.{Reply}
 use Rattle.tiresias_core.specs.declared.reply.Reply.TheVariants as reply
 use Rattle.tiresias_core.specs.declared.reply.FileFault.{FileFault}
 use Rattle.tiresias_core.specs.declared.reply.FileFault.TheVariants as fault
 
 -- the parts of one form
-same_form : (one other : List ℕ × List ℕ × ℕ) → ◌≡◌ {A = Option (List ℕ × List ℕ × ℕ)} (Some one) (Some other) → one ≡ other
+same_form : (one other : Form) → ◌≡◌ {A = Option Form} (Some one) (Some other) → one ≡ other
 same_form one other e = cc
 
-same_name : (a b c d : List ℕ) (m n : ℕ) → ◌≡◌ {A = Option (List ℕ × List ℕ × ℕ)} (Some (a, c, m)) (Some (b, d, n)) → a ≡ b
-same_name a b c d m n e = ap (λ (form : List ℕ × List ℕ × ℕ). form.0) (same_form (a, c, m) (b, d, n) e)
+same_name : (a b c d : List ℕ) (m n : Command) → ◌≡◌ {A = Option Form} (Some (a, c, m)) (Some (b, d, n)) → a ≡ b
+same_name a b c d m n e = ap (λ (form : Form). form.0) (same_form (a, c, m) (b, d, n) e)
 
-same_folder : (a b c d : List ℕ) (m n : ℕ) → ◌≡◌ {A = Option (List ℕ × List ℕ × ℕ)} (Some (a, c, m)) (Some (b, d, n)) → c ≡ d
-same_folder a b c d m n e = ap (λ (form : List ℕ × List ℕ × ℕ). form.1) (same_form (a, c, m) (b, d, n) e)
+same_folder : (a b c d : List ℕ) (m n : Command) → ◌≡◌ {A = Option Form} (Some (a, c, m)) (Some (b, d, n)) → c ≡ d
+same_folder a b c d m n e = ap (λ (form : Form). form.1) (same_form (a, c, m) (b, d, n) e)
 
-same_nodes : (a b c d : List ℕ) (m n : ℕ) → ◌≡◌ {A = Option (List ℕ × List ℕ × ℕ)} (Some (a, c, m)) (Some (b, d, n)) → m ≡ n
-same_nodes a b c d m n e = ap (λ (form : List ℕ × List ℕ × ℕ). form.2) (same_form (a, c, m) (b, d, n) e)
+same_command : (a b c d : List ℕ) (m n : Command) → ◌≡◌ {A = Option Form} (Some (a, c, m)) (Some (b, d, n)) → m ≡ n
+same_command a b c d m n e = ap (λ (form : Form). form.2) (same_form (a, c, m) (b, d, n) e)
 
 same_bytes : (a b : List ℕ) → ◌≡◌ {A = Option (List ℕ)} (Some a) (Some b) → a ≡ b
 same_bytes a b e = cc
 
 -- the words alone decide whether they are refused
 module _ (words : List (List ℕ)) (v : Visit) (before now : Option (List ℕ)) (faults faults' : ℕ) where
-  some_form : (form : List ℕ × List ℕ × ℕ) → solve_words words ≡ None → solve_words words ≡ Some form → ⊥
+  some_form : (form : Form) → form_of words ≡ None → form_of words ≡ Some form → ⊥
   some_form form none some = let e = sym none ∙ some in cc
 
-  words_reply : (told : Reply) → IsReply words v told → solve_words words ≡ None → status_of told ≡ status.Words
+  audit_form : (query : FirstQuery) (rows : Rows) (name : List ℕ) → Audits words v query rows name → form_of words ≡ None → ⊥
+  audit_form query rows name audits none = some_form (audits.accepted.asks.name, audits.accepted.folder, audits.accepted.asks.command) none audits.accepted.asks.form
+
+  words_reply : (told : Reply) → IsReply words v told → form_of words ≡ None → status_of told ≡ status.Words
   words_reply reply.Words cause none = refl
   words_reply (reply.Query why at) cause none = absurd (some_form (string_bytes at, cause.0, cause.1) none cause.2)
-  words_reply (reply.Table why at) cause none = absurd (some_form (cause.2.name, cause.0, cause.2.nodes) none cause.2.form)
-  words_reply (reply.Answered answer) cause none = absurd (some_form (cause.2.asks.name, cause.2.folder, cause.2.asks.nodes) none cause.2.asks.form)
+  words_reply (reply.Table why at) cause none = absurd (some_form (cause.2.name, cause.0, cause.2.command) none cause.2.form)
+  words_reply (reply.Answered answer) cause none = absurd (some_form (cause.2.asks.name, cause.2.folder, cause.2.asks.command) none cause.2.asks.form)
+  words_reply (reply.Answer why at) cause none = absurd (audit_form cause.0 cause.1 cause.2 cause.3 none)
+  words_reply (reply.Unreadable line) cause none = absurd (audit_form cause.0 cause.1 cause.2 cause.3 none)
+  words_reply (reply.Accepted objective) cause none = absurd (audit_form cause.0 cause.1 cause.2 cause.3 none)
+  words_reply (reply.Rejected reason part node) cause none = absurd (audit_form cause.0 cause.1 cause.2 cause.3 none)
 
   left_whole : (told : Status) → Leaves words v before now faults faults' told → told ≢ status.Write → told ≢ status.Memory → Wrote words v before now faults faults' told
   left_whole status.Done left whole room = left
@@ -70,7 +85,7 @@ module _ (words : List (List ℕ)) (v : Visit) (before now : Option (List ℕ)) 
   left_whole status.Write left whole room = absurd (whole refl)
   left_whole status.Memory left whole room = absurd (room refl)
 
-  pub only_words_says : (told : Status) → Leaves words v before now faults faults' told → told ≢ status.Write → told ≢ status.Memory → solve_words words ≡ None → told ≡ status.Words
+  pub only_words_says : (told : Status) → Leaves words v before now faults faults' told → told ≢ status.Write → told ≢ status.Memory → form_of words ≡ None → told ≡ status.Words
   only_words_says told left whole room none = let w = left_whole told left whole room in w.same ∙ words_reply w.reply w.cause none
 
   -- no write failed, but at one status
@@ -167,10 +182,10 @@ module _ (words : List (List ℕ)) (v : Visit) (is : IsTold v) where
 
   -- the query and the folder that are asked
   asked_name : (folder folder' : List ℕ) (query query' : FirstQuery) (one : Asks words v folder query) (other : Asks words v folder' query') → one.name ≡ other.name
-  asked_name folder folder' query query' one other = same_name one.name other.name folder folder' one.nodes other.nodes (sym one.form ∙ other.form)
+  asked_name folder folder' query query' one other = same_name one.name other.name folder folder' one.command other.command (sym one.form ∙ other.form)
 
   asked_folder : (folder folder' : List ℕ) (query query' : FirstQuery) → Asks words v folder query → Asks words v folder' query' → folder ≡ folder'
-  asked_folder folder folder' query query' one other = same_folder one.name other.name folder folder' one.nodes other.nodes (sym one.form ∙ other.form)
+  asked_folder folder folder' query query' one other = same_folder one.name other.name folder folder' one.command other.command (sym one.form ∙ other.form)
 
   asked_query : (folder folder' : List ℕ) (query query' : FirstQuery) → Asks words v folder query → Asks words v folder' query' → query ≡ query'
   asked_query folder folder' query query' one other =
@@ -178,18 +193,18 @@ module _ (words : List (List ℕ)) (v : Visit) (is : IsTold v) where
       let bytes : one.bytes ≡ other.bytes = one_file other.name one.bytes other.bytes (subst (λ (n : List ℕ). Holds v n one.bytes) name one.held) other.held in
       first_text-one other.bytes query query' (subst (λ (l : List ℕ). IsFirstText l query) bytes one.spelled) other.spelled
 
-  asked_nodes : (folder folder' : List ℕ) (query query' : FirstQuery) (one : Asks words v folder query) (other : Asks words v folder' query') → one.nodes ≡ other.nodes
-  asked_nodes folder folder' query query' one other = same_nodes one.name other.name folder folder' one.nodes other.nodes (sym one.form ∙ other.form)
+  asked_command : (folder folder' : List ℕ) (query query' : FirstQuery) (one : Asks words v folder query) (other : Asks words v folder' query') → one.command ≡ other.command
+  asked_command folder folder' query query' one other = same_command one.name other.name folder folder' one.command other.command (sym one.form ∙ other.form)
 
   -- a query's file that calls for a refusal is not asked
-  stops_asks : (name folder folder' : List ℕ) (nodes : ℕ) (query : FirstQuery) (why : FileFault) → solve_words words ≡ Some (name, folder, nodes) → QueryStops v name why → Asks words v folder' query → ⊥
-  stops_asks name folder folder' nodes query why form stops asks =
-      let same : name ≡ asks.name = same_name name asks.name folder folder' nodes asks.nodes (sym form ∙ asks.form) in
+  stops_asks : (name folder folder' : List ℕ) (command : Command) (query : FirstQuery) (why : FileFault) → form_of words ≡ Some (name, folder, command) → QueryStops v name why → Asks words v folder' query → ⊥
+  stops_asks name folder folder' command query why form stops asks =
+      let same : name ≡ asks.name = same_name name asks.name folder folder' command asks.command (sym form ∙ asks.form) in
       query_stop_read asks.name asks.bytes query why (subst (λ (n : List ℕ). QueryStops v n why) same stops) asks.held asks.short asks.spelled
 
-  calls_asks : (name folder folder' : List ℕ) (nodes : ℕ) (query : FirstQuery) (why : FileFault) → solve_words words ≡ Some (name, folder, nodes) → QueryCalls v name why → Asks words v folder' query → ⊥
-  calls_asks name folder folder' nodes query why form stops asks =
-      let same : name ≡ asks.name = same_name name asks.name folder folder' nodes asks.nodes (sym form ∙ asks.form) in
+  calls_asks : (name folder folder' : List ℕ) (command : Command) (query : FirstQuery) (why : FileFault) → form_of words ≡ Some (name, folder, command) → QueryCalls v name why → Asks words v folder' query → ⊥
+  calls_asks name folder folder' command query why form stops asks =
+      let same : name ≡ asks.name = same_name name asks.name folder folder' command asks.command (sym form ∙ asks.form) in
       query_call_read asks.name asks.bytes query why (subst (λ (n : List ℕ). QueryCalls v n why) same stops) asks.held asks.short asks.spelled
 
   -- the table's file of one query
@@ -218,39 +233,215 @@ module _ (words : List (List ℕ)) (v : Visit) (is : IsTold v) where
       table_call_read query' (table_path accepted.folder query'.table) accepted.bytes rows why
       (subst (λ (q : FirstQuery). TableCalls v q (table_path accepted.folder query'.table) why) same (subst (λ (n : List ℕ). TableCalls v query n why) path stops)) accepted.held accepted.short accepted.table
 
-  none_some : (form : List ℕ × List ℕ × ℕ) → solve_words words ≡ None → solve_words words ≡ Some form → ⊥
+  none_some : (form : Form) → form_of words ≡ None → form_of words ≡ Some form → ⊥
   none_some form none some = let e = sym none ∙ some in cc
+
+  none_accepted : (query : FirstQuery) (rows : Rows) → form_of words ≡ None → Accepted words v query rows → ⊥
+  none_accepted query rows none accepted = none_some (accepted.asks.name, accepted.folder, accepted.asks.command) none accepted.asks.form
+
+  -- what is to be done is one thing
+  one_command : (query query' : FirstQuery) (rows rows' : Rows) (one : Accepted words v query rows) (other : Accepted words v query' rows') → one.asks.command ≡ other.asks.command
+  one_command query query' rows rows' one other = asked_command one.folder other.folder query query' one.asks other.asks
+
+  solve_check : (nodes : ℕ) (name : List ℕ) → solve nodes ≡ check name → ⊥
+  solve_check nodes name e = cc
+
+  not_both_commands : (query query' : FirstQuery) (rows rows' : Rows) (name : List ℕ) (nodes : ℕ) (accepted : Accepted words v query rows) → accepted.asks.command ≡ solve nodes → Audits words v query' rows' name → ⊥
+  not_both_commands query query' rows rows' name nodes accepted solves audits =
+      solve_check nodes name (sym solves ∙ one_command query query' rows rows' accepted audits.accepted ∙ audits.checks)
+
+  one_name : (query query' : FirstQuery) (rows rows' : Rows) (name name' : List ℕ) → Audits words v query rows name → Audits words v query' rows' name' → name ≡ name'
+  one_name query query' rows rows' name name' one other = inside (sym one.checks ∙ one_command query query' rows rows' one.accepted other.accepted ∙ other.checks)
+    where
+      inside : {a b : List ℕ} → check a ≡ check b → a ≡ b
+      inside e = cc
+
+  one_query : (query query' : FirstQuery) (rows rows' : Rows) → Accepted words v query rows → Accepted words v query' rows' → query ≡ query'
+  one_query query query' rows rows' one other = asked_query one.folder other.folder query query' one.asks other.asks
+
+  not_long_answer : (name bytes : List ℕ) → IsLong v name MOST_ANSWER_BYTES → Holds v name bytes → length bytes ≤ MOST_ANSWER_BYTES → ⊥
+  not_long_answer name bytes long there short = let same = one_file name long.0 bytes long.1 there in omega (arith, ap length same, long.2)
+
+  -- one fault of an answer's file
+  answer_fault : (name : List ℕ) (why other : FileFault) → FileStops v MOST_ANSWER_BYTES name why → AnswerCalls v name other → why ≡ other
+  answer_fault name fault.Absent fault.Absent a b = refl
+  answer_fault name fault.Absent fault.ReadFailed a b = absurd b
+  answer_fault name fault.Absent fault.TooLong a b = absurd (not_both name b.0 a.1 b.1)
+  answer_fault name fault.Absent fault.NotBuilt a b = absurd b
+  answer_fault name fault.ReadFailed other a b = absurd (is.none_failed a)
+  answer_fault name fault.TooLong fault.Absent a b = absurd (not_both name a.0 b a.1)
+  answer_fault name fault.TooLong fault.ReadFailed a b = absurd b
+  answer_fault name fault.TooLong fault.TooLong a b = refl
+  answer_fault name fault.TooLong fault.NotBuilt a b = absurd b
+  answer_fault name fault.NotBuilt other a b = absurd a
+
+  -- a file of at most 512 MiB is to be had
+  stops_bytes : (name bytes : List ℕ) (why : FileFault) → FileStops v MOST_ANSWER_BYTES name why → Holds v name bytes → length bytes ≤ MOST_ANSWER_BYTES → ⊥
+  stops_bytes name bytes fault.Absent a there short = not_both name bytes a.1 there
+  stops_bytes name bytes fault.ReadFailed a there short = is.none_failed a
+  stops_bytes name bytes fault.TooLong a there short = not_long_answer name bytes a there short
+  stops_bytes name bytes fault.NotBuilt a there short = a
+
+  calls_bytes : (name bytes : List ℕ) (why : FileFault) → AnswerCalls v name why → Holds v name bytes → length bytes ≤ MOST_ANSWER_BYTES → ⊥
+  calls_bytes name bytes fault.Absent a there short = not_both name bytes a there
+  calls_bytes name bytes fault.ReadFailed a there short = a
+  calls_bytes name bytes fault.TooLong a there short = not_long_answer name bytes a there short
+  calls_bytes name bytes fault.NotBuilt a there short = a
+
+  -- a text is that of an answer, or of none
+  reads_none : (name bytes : List ℕ) (answer : Answer) → Reads v name answer → Holds v name bytes → ((answer : Answer) → AnswerText answer bytes → ⊥) → ⊥
+  reads_none name bytes answer reads there none =
+      none answer (subst (AnswerText answer) (one_file name reads.bytes bytes reads.held there) reads.spelled)
+
+  same_line : (name : List ℕ) (line line' : ℕ) → IsUnreadable v name line → LineCalls v name line' → line ≡ line'
+  same_line name line line' one other =
+      one.at other.count (subst (λ (l : List ℕ). IsStop l other.count) (sym (one_file name one.bytes other.bytes one.held other.held)) other.stop)
+      ∙ ap (λ (l : List ℕ). line_of l other.count) (one_file name one.bytes other.bytes one.held other.held) ∙ sym other.at
+
+  -- a reply to a check is not called for by a query or a table that is refused
+  calls_query_audit : (name folder : List ℕ) (command : Command) (query : FirstQuery) (rows : Rows) (at : List ℕ) (why : FileFault) → form_of words ≡ Some (name, folder, command) → QueryCalls v name why → Audits words v query rows at → ⊥
+  calls_query_audit name folder command query rows at why form calls audits = calls_asks name folder audits.accepted.folder command query why form calls audits.accepted.asks
+
+  calls_table_audit : (name folder : List ℕ) (query query' : FirstQuery) (rows : Rows) (at : List ℕ) (why : FileFault) → Asks words v folder query → name ≡ table_path folder query.table → TableCalls v query name why → Audits words v query' rows at → ⊥
+  calls_table_audit name folder query query' rows at why asks path calls audits = table_calls_accepted name folder query query' rows why asks path calls audits.accepted
 
   -- the reply is the one that is called for
   pub reply_called : (told : Reply) → IsReply words v told → (why : Refusal) → Calls words v why → (status_of told ≡ refusal_status why) × (text_of told ≡ refusal_line why)
   reply_called reply.Words none (of_query why name) calls = absurd (none_some (name, calls.0, calls.1) none calls.2)
-  reply_called reply.Words none (of_table why name) calls = absurd (none_some (calls.2.name, calls.0, calls.2.nodes) none calls.2.form)
+  reply_called reply.Words none (of_table why name) calls = absurd (none_some (calls.2.name, calls.0, calls.2.command) none calls.2.form)
+  reply_called reply.Words none (of_answer why name) calls = absurd (none_accepted calls.0 calls.1 none calls.2.accepted)
+  reply_called reply.Words none (of_line line) calls = absurd (none_accepted calls.0 calls.1 none calls.3.accepted)
   reply_called (reply.Query why at) cause (of_query other name) calls =
       let same : string_bytes at ≡ name = same_name (string_bytes at) name cause.0 calls.0 cause.1 calls.1 (sym cause.2 ∙ calls.2) in
       let fault_is = query_fault name why other (subst (λ (n : List ℕ). QueryStops v n why) same cause.3) calls.3 in
       (ap (fault_status status.Query) fault_is, ap (λ (f : FileFault). fault_line f (string_bytes at)) fault_is ∙ ap (fault_line other) same)
   reply_called (reply.Query why at) cause (of_table other name) calls = absurd (stops_asks (string_bytes at) cause.0 calls.0 cause.1 calls.1 why cause.2 cause.3 calls.2)
+  reply_called (reply.Query why at) cause (of_answer other name) calls = absurd (stops_asks (string_bytes at) cause.0 calls.2.accepted.folder cause.1 calls.0 why cause.2 cause.3 calls.2.accepted.asks)
+  reply_called (reply.Query why at) cause (of_line line) calls = absurd (stops_asks (string_bytes at) cause.0 calls.3.accepted.folder cause.1 calls.0 why cause.2 cause.3 calls.3.accepted.asks)
   reply_called (reply.Table why at) cause (of_query other name) calls = absurd (calls_asks name calls.0 cause.0 calls.1 cause.1 other calls.2 calls.3 cause.2)
   reply_called (reply.Table why at) cause (of_table other name) calls =
       let path : string_bytes at ≡ name = cause.3 ∙ path_same cause.0 calls.0 cause.1 calls.1 cause.2 calls.2 ∙ sym calls.3 in
       let same = asked_query cause.0 calls.0 cause.1 calls.1 cause.2 calls.2 in
       let fault_is = table_fault calls.1 name why other (subst (λ (q : FirstQuery). TableStops v q name why) same (subst (λ (n : List ℕ). TableStops v cause.1 n why) path cause.4)) calls.4 in
       (ap (fault_status status.Tables) fault_is, ap (λ (f : FileFault). fault_line f (string_bytes at)) fault_is ∙ ap (fault_line other) path)
+  reply_called (reply.Table why at) cause (of_answer other name) calls = absurd (table_stops_accepted (string_bytes at) cause.0 cause.1 calls.0 calls.1 why cause.2 cause.3 cause.4 calls.2.accepted)
+  reply_called (reply.Table why at) cause (of_line line) calls = absurd (table_stops_accepted (string_bytes at) cause.0 cause.1 calls.0 calls.1 why cause.2 cause.3 cause.4 calls.3.accepted)
   reply_called (reply.Answered answer) cause (of_query other name) calls = absurd (calls_asks name calls.0 cause.2.folder calls.1 cause.0 other calls.2 calls.3 cause.2.asks)
   reply_called (reply.Answered answer) cause (of_table other name) calls = absurd (table_calls_accepted name calls.0 calls.1 cause.0 cause.1 other calls.2 calls.3 calls.4 cause.2)
+  reply_called (reply.Answered answer) cause (of_answer other name) calls = absurd (not_both_commands cause.0 calls.0 cause.1 calls.1 name cause.3 cause.2 cause.4 calls.2)
+  reply_called (reply.Answered answer) cause (of_line line) calls = absurd (not_both_commands cause.0 calls.0 cause.1 calls.1 calls.2 cause.3 cause.2 cause.4 calls.3)
+  reply_called (reply.Answer why at) cause (of_query other name) calls = absurd (calls_query_audit name calls.0 calls.1 cause.0 cause.1 cause.2 other calls.2 calls.3 cause.3)
+  reply_called (reply.Answer why at) cause (of_table other name) calls = absurd (calls_table_audit name calls.0 calls.1 cause.0 cause.1 cause.2 other calls.2 calls.3 calls.4 cause.3)
+  reply_called (reply.Answer why at) cause (of_answer other name) calls =
+      let same : cause.2 ≡ name = one_name cause.0 calls.0 cause.1 calls.1 cause.2 name cause.3 calls.2 in
+      let fault_is = answer_fault name why other (subst (λ (n : List ℕ). FileStops v MOST_ANSWER_BYTES n why) same cause.4.1) calls.3 in
+      (ap (fault_status status.Unreadable) fault_is, ap (λ (f : FileFault). fault_line f (string_bytes at)) fault_is ∙ ap (fault_line other) (cause.4.0 ∙ same))
+  reply_called (reply.Answer why at) cause (of_line line) calls =
+      let same : cause.2 ≡ calls.2 = one_name cause.0 calls.0 cause.1 calls.1 cause.2 calls.2 cause.3 calls.3 in
+      absurd (stops_bytes calls.2 calls.4.bytes why (subst (λ (n : List ℕ). FileStops v MOST_ANSWER_BYTES n why) same cause.4.1) calls.4.held calls.4.short)
+  reply_called (reply.Unreadable at) cause (of_query other name) calls = absurd (calls_query_audit name calls.0 calls.1 cause.0 cause.1 cause.2 other calls.2 calls.3 cause.3)
+  reply_called (reply.Unreadable at) cause (of_table other name) calls = absurd (calls_table_audit name calls.0 calls.1 cause.0 cause.1 cause.2 other calls.2 calls.3 calls.4 cause.3)
+  reply_called (reply.Unreadable at) cause (of_answer other name) calls =
+      let same : cause.2 ≡ name = one_name cause.0 calls.0 cause.1 calls.1 cause.2 name cause.3 calls.2 in
+      absurd (calls_bytes name cause.4.bytes other calls.3 (subst (λ (n : List ℕ). Holds v n cause.4.bytes) same cause.4.held) cause.4.short)
+  reply_called (reply.Unreadable at) cause (of_line line) calls =
+      let same : cause.2 ≡ calls.2 = one_name cause.0 calls.0 cause.1 calls.1 cause.2 calls.2 cause.3 calls.3 in
+      (refl, ap unreadable_line (same_line calls.2 at line (subst (λ (n : List ℕ). IsUnreadable v n at) same cause.4) calls.4))
+  reply_called (reply.Accepted objective) cause (of_query other name) calls = absurd (calls_query_audit name calls.0 calls.1 cause.0 cause.1 cause.2 other calls.2 calls.3 cause.3)
+  reply_called (reply.Accepted objective) cause (of_table other name) calls = absurd (calls_table_audit name calls.0 calls.1 cause.0 cause.1 cause.2 other calls.2 calls.3 calls.4 cause.3)
+  reply_called (reply.Accepted objective) cause (of_answer other name) calls =
+      let same : cause.2 ≡ name = one_name cause.0 calls.0 cause.1 calls.1 cause.2 name cause.3 calls.2 in
+      absurd (calls_bytes name cause.4.1.bytes other calls.3 (subst (λ (n : List ℕ). Holds v n cause.4.1.bytes) same cause.4.1.held) cause.4.1.short)
+  reply_called (reply.Accepted objective) cause (of_line line) calls =
+      let same : cause.2 ≡ calls.2 = one_name cause.0 calls.0 cause.1 calls.1 cause.2 calls.2 cause.3 calls.3 in
+      absurd (reads_none calls.2 calls.4.bytes cause.4.0 (subst (λ (n : List ℕ). Reads v n cause.4.0) same cause.4.1) calls.4.held calls.4.none)
+  reply_called (reply.Rejected reason part node) cause (of_query other name) calls = absurd (calls_query_audit name calls.0 calls.1 cause.0 cause.1 cause.2 other calls.2 calls.3 cause.3)
+  reply_called (reply.Rejected reason part node) cause (of_table other name) calls = absurd (calls_table_audit name calls.0 calls.1 cause.0 cause.1 cause.2 other calls.2 calls.3 calls.4 cause.3)
+  reply_called (reply.Rejected reason part node) cause (of_answer other name) calls =
+      let same : cause.2 ≡ name = one_name cause.0 calls.0 cause.1 calls.1 cause.2 name cause.3 calls.2 in
+      absurd (calls_bytes name cause.4.1.bytes other calls.3 (subst (λ (n : List ℕ). Holds v n cause.4.1.bytes) same cause.4.1.held) cause.4.1.short)
+  reply_called (reply.Rejected reason part node) cause (of_line line) calls =
+      let same : cause.2 ≡ calls.2 = one_name cause.0 calls.0 cause.1 calls.1 cause.2 calls.2 cause.3 calls.3 in
+      absurd (reads_none calls.2 calls.4.bytes cause.4.0 (subst (λ (n : List ℕ). Reads v n cause.4.0) same cause.4.1) calls.4.held calls.4.none)
 
-  -- an accepted query is answered
+  -- an accepted query that is to be solved is answered
   answered_verdict : (told : Verdict) → IsAnswered (verdict_status told)
   answered_verdict (verdict.Optimal objective worlds parts) = tt
   answered_verdict (verdict.FalseRow row) = tt
   answered_verdict (verdict.NoWorld part) = tt
   answered_verdict (verdict.Unfinished nodes parts) = tt
 
-  pub reply_answered : (told : Reply) → IsReply words v told → (query : FirstQuery) (rows : Rows) → Accepted words v query rows → IsAnswered (status_of told)
-  reply_answered reply.Words none query rows accepted = absurd (none_some (accepted.asks.name, accepted.folder, accepted.asks.nodes) none accepted.asks.form)
-  reply_answered (reply.Query why at) cause query rows accepted = absurd (stops_asks (string_bytes at) cause.0 accepted.folder cause.1 query why cause.2 cause.3 accepted.asks)
-  reply_answered (reply.Table why at) cause query rows accepted = absurd (table_stops_accepted (string_bytes at) cause.0 cause.1 query rows why cause.2 cause.3 cause.4 accepted)
-  reply_answered (reply.Answered answer) cause query rows accepted = answered_verdict answer.verdict
+  pub reply_answered : (told : Reply) → IsReply words v told → (query : FirstQuery) (rows : Rows) (accepted : Accepted words v query rows) (budget : ℕ) → accepted.asks.command ≡ solve budget → IsAnswered (status_of told)
+  reply_answered reply.Words none query rows accepted budget solves = absurd (none_accepted query rows none accepted)
+  reply_answered (reply.Query why at) cause query rows accepted budget solves = absurd (stops_asks (string_bytes at) cause.0 accepted.folder cause.1 query why cause.2 cause.3 accepted.asks)
+  reply_answered (reply.Table why at) cause query rows accepted budget solves = absurd (table_stops_accepted (string_bytes at) cause.0 cause.1 query rows why cause.2 cause.3 cause.4 accepted)
+  reply_answered (reply.Answered answer) cause query rows accepted budget solves = answered_verdict answer.verdict
+  reply_answered (reply.Answer why at) cause query rows accepted budget solves = absurd (not_both_commands query cause.0 rows cause.1 cause.2 budget accepted solves cause.3)
+  reply_answered (reply.Unreadable line) cause query rows accepted budget solves = absurd (not_both_commands query cause.0 rows cause.1 cause.2 budget accepted solves cause.3)
+  reply_answered (reply.Accepted objective) cause query rows accepted budget solves = absurd (not_both_commands query cause.0 rows cause.1 cause.2 budget accepted solves cause.3)
+  reply_answered (reply.Rejected reason part node) cause query rows accepted budget solves = absurd (not_both_commands query cause.0 rows cause.1 cause.2 budget accepted solves cause.3)
+
+  -- a check tells what it comes to
+  module _ (query : FirstQuery) (rows : Rows) (name : List ℕ) (audits : Audits words v query rows name) (answer : Answer) (reads : Reads v name answer) where
+    order : query.lo ≤ℤ query.hi
+    order = (first_text-query audits.accepted.asks.bytes query audits.accepted.asks.spelled).sound.order
+
+    -- the same answer is read
+    same_answer : (query' : FirstQuery) (rows' : Rows) (name' : List ℕ) (other : Answer) → Audits words v query' rows' name' → Reads v name' other → other ≡ answer
+    same_answer query' rows' name' other also found =
+        let same : name' ≡ name = one_name query' query rows' rows name' name also audits in
+        let bytes : found.bytes ≡ reads.bytes = one_file name found.bytes reads.bytes (subst (λ (n : List ℕ). Holds v n found.bytes) same found.held) reads.held in
+        one_answer other answer reads.bytes (subst (AnswerText other) bytes found.spelled) reads.spelled
+
+    same_outcome : (query' : FirstQuery) (rows' : Rows) (name' : List ℕ) (other : Answer) (one outcome : Outcome) → Audits words v query' rows' name' → Reads v name' other → IsOutcome query' rows' other one → IsOutcome query rows answer outcome → one ≡ outcome
+    same_outcome query' rows' name' other one outcome also found of is_outcome =
+        let same_query : query' ≡ query = one_query query' query rows' rows also.accepted audits.accepted in
+        let same_rows : rows' ≡ rows = accepted_rows query' query rows' rows also.accepted audits.accepted in
+        let same = same_answer query' rows' name' other also found in
+        one_outcome query rows order answer one outcome
+        (subst (λ (a : Answer). IsOutcome query rows a one) same (subst (λ (r : Rows). IsOutcome query r other one) same_rows (subst (λ (q : FirstQuery). IsOutcome q rows' other one) same_query of))) is_outcome
+
+    pub reply_checked : (told : Reply) → IsReply words v told → (outcome : Outcome) → IsOutcome query rows answer outcome → (status_of told ≡ outcome_status outcome) × (text_of told ≡ outcome_line answer outcome)
+    reply_checked reply.Words none outcome of = absurd (none_accepted query rows none audits.accepted)
+    reply_checked (reply.Query why at) cause outcome of = absurd (stops_asks (string_bytes at) cause.0 audits.accepted.folder cause.1 query why cause.2 cause.3 audits.accepted.asks)
+    reply_checked (reply.Table why at) cause outcome of = absurd (table_stops_accepted (string_bytes at) cause.0 cause.1 query rows why cause.2 cause.3 cause.4 audits.accepted)
+    reply_checked (reply.Answered other) cause outcome of = absurd (not_both_commands cause.0 query cause.1 rows name cause.3 cause.2 cause.4 audits)
+    reply_checked (reply.Answer why at) cause outcome of =
+        let same : cause.2 ≡ name = one_name cause.0 query cause.1 rows cause.2 name cause.3 audits in
+        absurd (stops_bytes name reads.bytes why (subst (λ (n : List ℕ). FileStops v MOST_ANSWER_BYTES n why) same cause.4.1) reads.held reads.short)
+    reply_checked (reply.Unreadable line) cause outcome of =
+        let same : cause.2 ≡ name = one_name cause.0 query cause.1 rows cause.2 name cause.3 audits in
+        absurd (reads_none name cause.4.bytes answer reads (subst (λ (n : List ℕ). Holds v n cause.4.bytes) same cause.4.held) cause.4.none)
+    reply_checked (reply.Accepted objective) cause outcome of =
+        let same : Ok tt ≡ outcome = same_outcome cause.0 cause.1 cause.2 cause.4.0 (Ok tt) outcome cause.3 cause.4.1 cause.4.2 of in
+        let told : objective ≡ objective_of answer.verdict = cause.4.3 ∙ ap (λ (a : Answer). objective_of a.verdict) (same_answer cause.0 cause.1 cause.2 cause.4.0 cause.3 cause.4.1) in
+        (ap outcome_status same, ap accepted_line told ∙ ap (outcome_line answer) same)
+    reply_checked (reply.Rejected reason part node) cause outcome of =
+        let same : Err (wrong.Rejected reason part node) ≡ outcome = same_outcome cause.0 cause.1 cause.2 cause.4.0 (Err (wrong.Rejected reason part node)) outcome cause.3 cause.4.1 cause.4.2 of in
+        (ap outcome_status same, ap (outcome_line answer) same)
+
+    -- a valid answer is accepted
+    pub reply_accepts : (told : Reply) → IsReply words v told → IsValid query rows answer → status_of told ≡ status.Done
+    reply_accepts reply.Words none valid = absurd (none_accepted query rows none audits.accepted)
+    reply_accepts (reply.Query why at) cause valid = absurd (stops_asks (string_bytes at) cause.0 audits.accepted.folder cause.1 query why cause.2 cause.3 audits.accepted.asks)
+    reply_accepts (reply.Table why at) cause valid = absurd (table_stops_accepted (string_bytes at) cause.0 cause.1 query rows why cause.2 cause.3 cause.4 audits.accepted)
+    reply_accepts (reply.Answered other) cause valid = absurd (not_both_commands cause.0 query cause.1 rows name cause.3 cause.2 cause.4 audits)
+    reply_accepts (reply.Answer why at) cause valid =
+        let same : cause.2 ≡ name = one_name cause.0 query cause.1 rows cause.2 name cause.3 audits in
+        absurd (stops_bytes name reads.bytes why (subst (λ (n : List ℕ). FileStops v MOST_ANSWER_BYTES n why) same cause.4.1) reads.held reads.short)
+    reply_accepts (reply.Unreadable line) cause valid =
+        let same : cause.2 ≡ name = one_name cause.0 query cause.1 rows cause.2 name cause.3 audits in
+        absurd (reads_none name cause.4.bytes answer reads (subst (λ (n : List ℕ). Holds v n cause.4.bytes) same cause.4.held) cause.4.none)
+    reply_accepts (reply.Accepted objective) cause valid = refl
+    reply_accepts (reply.Rejected reason part node) cause valid =
+        let same_query : cause.0 ≡ query = one_query cause.0 query cause.1 rows cause.3.accepted audits.accepted in
+        let same_rows : cause.1 ≡ rows = accepted_rows cause.0 query cause.1 rows cause.3.accepted audits.accepted in
+        let same = same_answer cause.0 cause.1 cause.2 cause.4.0 cause.3 cause.4.1 in
+        let of : IsOutcome query rows answer (Err (wrong.Rejected reason part node)) =
+        subst (λ (a : Answer). IsOutcome query rows a (Err (wrong.Rejected reason part node))) same
+        (subst (λ (r : Rows). IsOutcome query r cause.4.0 (Err (wrong.Rejected reason part node))) same_rows
+        (subst (λ (q : FirstQuery). IsOutcome q cause.1 cause.4.0 (Err (wrong.Rejected reason part node))) same_query cause.4.2)) in
+        let wrong_is = valid_accepted query rows order answer (Err (wrong.Rejected reason part node)) valid of in cc
 
   module _ (before now : Option (List ℕ)) (faults faults' : ℕ) where
     pub refused_says : (told : Status) → Leaves words v before now faults faults' told → told ≢ status.Write → told ≢ status.Memory → (why : Refusal) → Calls words v why → (told ≡ refusal_status why) × Appends before now (refusal_line why)
@@ -258,29 +449,44 @@ module _ (words : List (List ℕ)) (v : Visit) (is : IsTold v) where
         let w = left_whole words v before now faults faults' told left whole room in let same = reply_called w.reply w.cause why calls in
         (w.same ∙ same.0, subst (λ (l : List ℕ). Appends before now l) same.1 w.text)
 
-    pub answered_says : (told : Status) → Leaves words v before now faults faults' told → told ≢ status.Write → told ≢ status.Memory → (query : FirstQuery) (rows : Rows) → Accepted words v query rows → IsAnswered told
-    answered_says told left whole room query rows accepted =
-        let w = left_whole words v before now faults faults' told left whole room in subst IsAnswered (sym w.same) (reply_answered w.reply w.cause query rows accepted)
+    pub answered_says : (told : Status) → Leaves words v before now faults faults' told → told ≢ status.Write → told ≢ status.Memory → (query : FirstQuery) (rows : Rows) (accepted : Accepted words v query rows) (budget : ℕ) → accepted.asks.command ≡ solve budget → IsAnswered told
+    answered_says told left whole room query rows accepted budget solves =
+        let w = left_whole words v before now faults faults' told left whole room in subst IsAnswered (sym w.same) (reply_answered w.reply w.cause query rows accepted budget solves)
+
+    pub checked_says : (told : Status) → Leaves words v before now faults faults' told → told ≢ status.Write → told ≢ status.Memory → (query : FirstQuery) (rows : Rows) (name : List ℕ) → Audits words v query rows name → (answer : Answer) → Reads v name answer → (outcome : Outcome) → IsOutcome query rows answer outcome → (told ≡ outcome_status outcome) × Appends before now (outcome_line answer outcome)
+    checked_says told left whole room query rows name audits answer reads outcome of =
+        let w = left_whole words v before now faults faults' told left whole room in let same = reply_checked query rows name audits answer reads w.reply w.cause outcome of in
+        (w.same ∙ same.0, subst (λ (l : List ℕ). Appends before now l) same.1 w.text)
+
+    pub accepts_says : (told : Status) → Leaves words v before now faults faults' told → told ≢ status.Write → told ≢ status.Memory → (query : FirstQuery) (rows : Rows) (name : List ℕ) → Audits words v query rows name → (answer : Answer) → Reads v name answer → IsValid query rows answer → told ≡ status.Done
+    accepts_says told left whole room query rows name audits answer reads valid =
+        let w = left_whole words v before now faults faults' told left whole room in w.same ∙ reply_accepts query rows name audits answer reads w.reply w.cause valid
 
     -- a budget of one node less than twice the worlds is enough
-    pub enough_says : (told : Status) → Leaves words v before now faults faults' told → (query : FirstQuery) (rows : Rows) (accepted : Accepted words v query rows) → 2 * points (root query rows) ≤ accepted.asks.nodes + 1 → told ≢ status.Unfinished
-    enough_says told left query rows accepted enough same =
+    pub enough_says : (told : Status) → Leaves words v before now faults faults' told → (query : FirstQuery) (rows : Rows) (accepted : Accepted words v query rows) (budget : ℕ) → accepted.asks.command ≡ solve budget → 2 * points (root query rows) ≤ budget + 1 → told ≢ status.Unfinished
+    enough_says told left query rows accepted budget solves enough same =
         let w = unfinished_says words v before now faults faults' told left same in
         let l = w.unfinished.listed in
         let below = worked_below l.tree (root w.query w.rows) l.listing w.unfinished.undone in
         let spent = l.spent w.unfinished.undone in
-        let nodes = asked_nodes w.accepted.folder accepted.folder w.query query w.accepted.asks accepted.asks in
-        let one = asked_query w.accepted.folder accepted.folder w.query query w.accepted.asks accepted.asks in
+        let nodes : w.budget ≡ budget = same_solve (sym w.solves ∙ one_command w.query query w.rows rows w.accepted accepted ∙ solves) in
+        let one = one_query w.query query w.rows rows w.accepted accepted in
         let table = accepted_rows w.query query w.rows rows w.accepted accepted in
         let count : points (root w.query w.rows) ≡ points (root query rows) = ap (λ (q : FirstQuery). points (root q w.rows)) one ∙ ap (λ (r : Rows). points (root query r)) table in
         omega (arith, below, spent, nodes, count, enough)
+      where
+        same_solve : {m n : ℕ} → solve m ≡ solve n → m ≡ n
+        same_solve e = cc
 
     -- where no possible world meets, no answer is optimal
-    pub none_says : (told : Status) → Leaves words v before now faults faults' told → (query : FirstQuery) (rows : Rows) → Accepted words v query rows → NoneMeets query rows → told ≢ status.Done
-    none_says told left query rows accepted none same =
-        let w = done_says words v before now faults faults' told left same in
-        let one = asked_query w.accepted.folder accepted.folder w.query query w.accepted.asks accepted.asks in
-        let table = accepted_rows w.query query w.rows rows w.accepted accepted in
-        none w.optimal.world
-        (subst (λ (q : FirstQuery). IsPossible q rows w.optimal.world) one (subst (λ (r : Rows). IsPossible w.query r w.optimal.world) table w.optimal.best.possible))
-        (subst (λ (q : FirstQuery). Meets q w.optimal.world) one w.optimal.best.meets)
+    pub none_says : (told : Status) → Leaves words v before now faults faults' told → (query : FirstQuery) (rows : Rows) (accepted : Accepted words v query rows) (budget : ℕ) → accepted.asks.command ≡ solve budget → NoneMeets query rows → told ≢ status.Done
+    none_says told left query rows accepted budget solves none same = by_case (done_says words v before now faults faults' told left same)
+      where
+        by_case : WroteBest words v before now ⊎ WroteAccepted words v before now → ⊥
+        by_case (inr checked) = not_both_commands query checked.query rows checked.rows checked.name budget accepted solves checked.audits
+        by_case (inl w) =
+            let one = one_query w.query query w.rows rows w.accepted accepted in
+            let table = accepted_rows w.query query w.rows rows w.accepted accepted in
+            none w.optimal.world
+            (subst (λ (q : FirstQuery). IsPossible q rows w.optimal.world) one (subst (λ (r : Rows). IsPossible w.query r w.optimal.world) table w.optimal.best.possible))
+            (subst (λ (q : FirstQuery). Meets q w.optimal.world) one w.optimal.best.meets)

@@ -51,3 +51,10 @@ reads_of before now faults faults' first last told (reply.Table fault.Absent nam
 reads_of before now faults faults' first last told (reply.Table fault.TooLong name) kept tells unread whole room = kept
 reads_of before now faults faults' first last told (reply.Table fault.NotBuilt name) kept tells unread whole room = kept
 reads_of before now faults faults' first last told (reply.Table fault.ReadFailed name) kept tells unread whole room = absurd (unread (same_status before now faults faults' told (reply.Table fault.ReadFailed name) tells whole room))
+reads_of before now faults faults' first last told (reply.Answer fault.Absent name) kept tells unread whole room = kept
+reads_of before now faults faults' first last told (reply.Answer fault.TooLong name) kept tells unread whole room = kept
+reads_of before now faults faults' first last told (reply.Answer fault.NotBuilt name) kept tells unread whole room = kept
+reads_of before now faults faults' first last told (reply.Answer fault.ReadFailed name) kept tells unread whole room = absurd (unread (same_status before now faults faults' told (reply.Answer fault.ReadFailed name) tells whole room))
+reads_of before now faults faults' first last told (reply.Unreadable line) kept tells unread whole room = kept
+reads_of before now faults faults' first last told (reply.Accepted objective) kept tells unread whole room = kept
+reads_of before now faults faults' first last told (reply.Rejected reason part node) kept tells unread whole room = kept

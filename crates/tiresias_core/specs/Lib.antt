@@ -1,9 +1,10 @@
 pub mod Causes
 pub mod Exact
+pub mod Forms
 pub mod Pieces
 pub mod Replies
 pub mod Results
 pub mod Runs
-pub mod Valid
+pub mod Verdicts
 pub mod Visits
 pub mod Words

@@ -1,10 +1,13 @@
 -- What is answered, its status and its text.
-use Rattle.std.specs.Prelude.{ℕ, List, [], ◌∷◌, ◌++◌, codes, string_bytes}
+use Rattle.std.specs.Prelude.{ℕ, ℤ, List, [], ◌∷◌, ◌++◌, Option, Some, None, codes, decimal, string_bytes}
+use Rattle.std.specs.Fmt.{signed_decimal}
 use Rattle.base_kit.specs.declared.status.Status.{Status}
 use Rattle.base_kit.specs.declared.status.Status.TheVariants as status
 use Rattle.answer_text.specs.declared.answer.Verdict.{Verdict}
 use Rattle.answer_text.specs.declared.answer.Verdict.TheVariants as verdict
 use Rattle.answer_text.specs.Text.{answer_bytes}
+use Rattle.cert_check.specs.declared.fault.Reject.{Reject}
+use Rattle.cert_check.specs.declared.fault.Reject.TheVariants as reject
 use Rattle.tiresias_core.specs.declared.reply.Reply.{Reply}
 use Rattle.tiresias_core.specs.declared.reply.Reply.TheVariants as reply
 use Rattle.tiresias_core.specs.declared.reply.FileFault.{FileFault}
@@ -28,6 +31,10 @@ status_of reply.Words = status.Words
 status_of (reply.Query fault name) = fault_status status.Query fault
 status_of (reply.Table fault name) = fault_status status.Tables fault
 status_of (reply.Answered answer) = verdict_status answer.verdict
+status_of (reply.Answer fault name) = fault_status status.Unreadable fault
+status_of (reply.Unreadable line) = status.Unreadable
+status_of (reply.Accepted objective) = status.Done
+status_of (reply.Rejected reason part node) = status.Rejected
 
 -- the line that names a file, as it is refused
 abbrev pub fault_line : FileFault → List ℕ → List ℕ
@@ -36,8 +43,40 @@ fault_line fault.ReadFailed name = codes "refused: read failed " ++ name ++ 10 �
 fault_line fault.TooLong name = codes "refused: too long " ++ name ++ 10 ∷ []
 fault_line fault.NotBuilt name = codes "refused: not built " ++ name ++ 10 ∷ []
 
+-- the words of a reason
+abbrev pub reason_words : Reject → List ℕ
+reason_words reject.Unfinished = codes "unfinished"
+reason_words reject.WrongProgram = codes "wrong program"
+reason_words reject.WrongWorld = codes "wrong world"
+reason_words reject.WorldBreaks = codes "world breaks"
+reason_words reject.WrongObjective = codes "wrong objective"
+reason_words reject.RowHolds = codes "row holds"
+reason_words reject.WrongParts = codes "wrong parts"
+reason_words reject.BestDiffers = codes "best differs"
+reason_words reject.WrongSplit = codes "wrong split"
+reason_words reject.OpenNode = codes "open node"
+reason_words reject.NotFixed = codes "not fixed"
+reason_words reject.FixedBeats = codes "fixed beats"
+
+-- the line of an answer that is accepted, with the objective of an optimal one
+abbrev pub accepted_line : Option ℤ → List ℕ
+accepted_line (Some objective) = codes "accepted optimal " ++ signed_decimal objective ++ 10 ∷ []
+accepted_line None = codes "accepted impossible\n"
+
+-- the line of an answer that is not valid: the reason, the part and the node
+abbrev pub rejected_line : Reject → ℕ → ℕ → List ℕ
+rejected_line reason part node = codes "rejected: " ++ reason_words reason ++ codes " " ++ decimal part ++ codes " " ++ decimal node ++ 10 ∷ []
+
+-- the line of bytes that are no answer's text
+abbrev pub unreadable_line : ℕ → List ℕ
+unreadable_line line = codes "refused: unreadable answer " ++ decimal line ++ 10 ∷ []
+
 abbrev pub text_of : Reply → List ℕ
 text_of reply.Words = codes "refused: words\n"
 text_of (reply.Query fault name) = fault_line fault (string_bytes name)
 text_of (reply.Table fault name) = fault_line fault (string_bytes name)
 text_of (reply.Answered answer) = answer_bytes answer
+text_of (reply.Answer fault name) = fault_line fault (string_bytes name)
+text_of (reply.Unreadable line) = unreadable_line line
+text_of (reply.Accepted objective) = accepted_line objective
+text_of (reply.Rejected reason part node) = rejected_line reason part node

@@ -1,6 +1,7 @@
 -- What each status says of what was written.
-use Rattle.std.specs.Prelude.{◌≡◌, ℕ, ℤ, List, Option, Some}
+use Rattle.std.specs.Prelude.{◌≡◌, ◌⊎◌, ◌≤◌, ℕ, ℤ, List, Option, Some, Err, length}
 use Rattle.std.specs.Io.KnownBytes.{Appends}
+use Rattle.answer_text.specs.Answers.{AnswerText}
 use Rattle.answer_text.specs.Text.{answer_bytes}
 use Rattle.answer_text.specs.declared.answer.Answer.{Answer}
 use Rattle.answer_text.specs.declared.answer.PartAnswer.{PartAnswer}
@@ -11,38 +12,52 @@ use Rattle.tiql_read.specs.FirstTexts.{IsFirstText}
 use Rattle.tables_csv.specs.Tables.{IsFirstTable}
 use Rattle.world_def.specs.First.{Rows, NoneMeets}
 use Rattle.first_listing.specs.Parts.{Answers, IsOptimal, IsUnfinished}
-use Rattle.tiresias_core.specs.Words.{solve_words, table_path}
-use Rattle.tiresias_core.specs.Valid.{IsValid}
+use Rattle.tiresias_core.specs.Words.{Command, solve, form_of, table_path}
+use Rattle.cert_check.specs.Reasons.{IsOutcome}
+use Rattle.cert_check.specs.Valid.{IsRight, IsValid}
+use Rattle.cert_check.specs.declared.fault.Reject.{Reject}
+use Rattle.cert_check.specs.declared.fault.CheckFault.TheVariants as wrong
 use Rattle.tiresias_core.specs.Visits.{Visit, Holds, IsAbsent, IsFailed, IsLong}
-use Rattle.tiresias_core.specs.Causes.{Asks, Accepted}
-use Rattle.tiresias_core.specs.Replies.{fault_line}
-use Rattle.tiresias_core.specs.declared.fetch.TheConstants.{MOST_FILE_BYTES}
+use Rattle.tiresias_core.specs.Causes.{Asks, Accepted, Reads, IsUnreadable, Audits}
+use Rattle.tiresias_core.specs.Replies.{fault_line, accepted_line, rejected_line, unreadable_line}
+use Rattle.tiresias_core.specs.Verdicts.{objective_of}
+use Rattle.tiresias_core.specs.declared.fetch.TheConstants.{MOST_FILE_BYTES, MOST_ANSWER_BYTES}
 use Rattle.tiresias_core.specs.declared.reply.FileFault.{FileFault}
 use Rattle.tiresias_core.specs.declared.reply.FileFault.TheVariants as fault
 
--- the text of an optimal answer: its world is best, its objective is that world's score, and an audit accepts it
+-- an answer of at most 512 MiB is read from its text
+abbrev pub IsReadable : Answer → Type 0
+IsReadable answer = length (answer_bytes answer) ≤ MOST_ANSWER_BYTES → AnswerText answer (answer_bytes answer)
+
+-- the text of an optimal answer: its world is best, its objective is that world's score, and a check accepts it
 pub record WroteBest (words : List (List ℕ)) (v : Visit) (before now : Option (List ℕ)) : Type 0 where
   pub query : FirstQuery
   pub rows : Rows
   pub accepted : Accepted words v query rows
+  pub budget : ℕ
+  pub solves : accepted.asks.command ≡ solve budget
   pub answer : Answer
   pub objective : ℤ
   pub worlds : List WorldText
   pub parts : List PartAnswer
   pub verdict : answer.verdict ≡ verdict.Optimal objective worlds parts
-  pub optimal : IsOptimal query rows accepted.asks.nodes objective worlds parts
+  pub optimal : IsOptimal query rows budget objective worlds parts
   pub valid : IsValid query rows answer
+  pub readable : IsReadable answer
   pub text : Appends before now (answer_bytes answer)
 
--- the text of an impossible answer: no possible world meets, and an audit accepts it
+-- the text of an impossible answer: no possible world meets, and a check accepts it
 pub record WroteNone (words : List (List ℕ)) (v : Visit) (before now : Option (List ℕ)) : Type 0 where
   pub query : FirstQuery
   pub rows : Rows
   pub accepted : Accepted words v query rows
+  pub budget : ℕ
+  pub solves : accepted.asks.command ≡ solve budget
   pub none : NoneMeets query rows
   pub answer : Answer
-  pub answers : Answers query rows accepted.asks.nodes answer
+  pub answers : Answers query rows budget answer
   pub valid : IsValid query rows answer
+  pub readable : IsReadable answer
   pub text : Appends before now (answer_bytes answer)
 
 -- the text of an unfinished answer: its tree has worked the whole budget, and a node is open
@@ -50,33 +65,37 @@ pub record WroteUnfinished (words : List (List ℕ)) (v : Visit) (before now : O
   pub query : FirstQuery
   pub rows : Rows
   pub accepted : Accepted words v query rows
+  pub budget : ℕ
+  pub solves : accepted.asks.command ≡ solve budget
   pub answer : Answer
   pub nodes : ℕ
   pub parts : List PartAnswer
   pub verdict : answer.verdict ≡ verdict.Unfinished nodes parts
-  pub unfinished : IsUnfinished query rows accepted.asks.nodes nodes parts
+  pub unfinished : IsUnfinished query rows budget nodes parts
   pub text : Appends before now (answer_bytes answer)
 
--- why a file was not to be had
-abbrev pub UnreadFor : Visit → List ℕ → FileFault → Type 0
-UnreadFor v name fault.Absent = IsAbsent v name
-UnreadFor v name fault.ReadFailed = IsFailed v
-UnreadFor v name fault.TooLong = IsLong v name MOST_FILE_BYTES
-UnreadFor v name fault.NotBuilt = ⊥
+-- why a file that may have so many bytes was not to be had
+abbrev pub UnreadFor : Visit → ℕ → List ℕ → FileFault → Type 0
+UnreadFor v most name fault.Absent = IsAbsent v name
+UnreadFor v most name fault.ReadFailed = IsFailed v
+UnreadFor v most name fault.TooLong = IsLong v name most
+UnreadFor v most name fault.NotBuilt = ⊥
 
--- the line of a file that is absent, was not read, or is too long
+-- the line of a file that is absent, was not read, or is too long: for a query or a table, or for an answer
 pub record WroteUnread (words : List (List ℕ)) (v : Visit) (before now : Option (List ℕ)) : Type 0 where
   pub name : List ℕ
   pub why : FileFault
-  pub cause : UnreadFor v name why
+  pub most : ℕ
+  pub limit : (most ≡ MOST_FILE_BYTES) ⊎ (most ≡ MOST_ANSWER_BYTES)
+  pub cause : UnreadFor v most name why
   pub text : Appends before now (fault_line why name)
 
 -- the line of a query's file that is no first text
 pub record WroteNoQuery (words : List (List ℕ)) (v : Visit) (before now : Option (List ℕ)) : Type 0 where
   pub name : List ℕ
   pub folder : List ℕ
-  pub nodes : ℕ
-  pub form : solve_words words ≡ Some (name, folder, nodes)
+  pub command : Command
+  pub form : form_of words ≡ Some (name, folder, command)
   pub bytes : List ℕ
   pub held : Holds v name bytes
   pub none : (query : FirstQuery) → IsFirstText bytes query → ⊥
@@ -91,3 +110,39 @@ pub record WroteNoTable (words : List (List ℕ)) (v : Visit) (before now : Opti
   pub held : Holds v (table_path folder query.table) bytes
   pub none : (rows : Rows) → IsFirstTable bytes query.columns rows → ⊥
   pub text : Appends before now (fault_line fault.NotBuilt (table_path folder query.table))
+
+-- the line of an answer that is accepted: it is valid, and what it says is right, whoever wrote it
+pub record WroteAccepted (words : List (List ℕ)) (v : Visit) (before now : Option (List ℕ)) : Type 0 where
+  pub query : FirstQuery
+  pub rows : Rows
+  pub name : List ℕ
+  pub audits : Audits words v query rows name
+  pub answer : Answer
+  pub reads : Reads v name answer
+  pub valid : IsValid query rows answer
+  pub right : IsRight query rows answer.verdict
+  pub text : Appends before now (accepted_line (objective_of answer.verdict))
+
+-- the line of an answer that is not valid: its first reason, with the part and the node
+pub record WroteRejected (words : List (List ℕ)) (v : Visit) (before now : Option (List ℕ)) : Type 0 where
+  pub query : FirstQuery
+  pub rows : Rows
+  pub name : List ℕ
+  pub audits : Audits words v query rows name
+  pub answer : Answer
+  pub reads : Reads v name answer
+  pub reason : Reject
+  pub part : ℕ
+  pub node : ℕ
+  pub first : IsOutcome query rows answer (Err (wrong.Rejected reason part node))
+  pub text : Appends before now (rejected_line reason part node)
+
+-- the line of a file that is no answer's text
+pub record WroteUnreadable (words : List (List ℕ)) (v : Visit) (before now : Option (List ℕ)) : Type 0 where
+  pub query : FirstQuery
+  pub rows : Rows
+  pub name : List ℕ
+  pub audits : Audits words v query rows name
+  pub line : ℕ
+  pub cause : IsUnreadable v name line
+  pub text : Appends before now (unreadable_line line)

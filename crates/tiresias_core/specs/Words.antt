@@ -15,19 +15,32 @@ nodes_of word =
     if nat_le (length word) 6 && begins_plain word && list_all is_ascii_digit word && nat_le (digits_value 10 word) 100000
     then Some (digits_value 10 word) else None
 
--- the query's name, the folder and the nodes
-abbrev pub form_of : List ℕ → List ℕ → List ℕ → Option ℕ → Option (List ℕ × List ℕ × ℕ)
-form_of word query folder None = None
-form_of word query folder (Some nodes) = if bytes_eq word (codes "solve") then Some (query, folder, nodes) else None
+-- what is to be done: to solve within so many nodes, or to check the answer of this name
+pub data Command : Type 0 where
+  solve : ℕ → Command
+  check : List ℕ → Command
 
--- `solve QUERY DIR` works 10,000 nodes, `solve QUERY DIR NODES` as many as it names
-abbrev pub solve_words : List (List ℕ) → Option (List ℕ × List ℕ × ℕ)
-solve_words [] = None
-solve_words (word ∷ []) = None
-solve_words (word ∷ query ∷ []) = None
-solve_words (word ∷ query ∷ folder ∷ []) = form_of word query folder (Some 10000)
-solve_words (word ∷ query ∷ folder ∷ nodes ∷ []) = form_of word query folder (nodes_of nodes)
-solve_words (word ∷ query ∷ folder ∷ nodes ∷ more ∷ words) = None
+-- a query's name, a folder, and what is to be done
+abbrev pub Form : Type 0
+Form = List ℕ × List ℕ × Command
+
+-- the form of solving with these nodes, where the first word is `solve`
+abbrev pub solve_form : List ℕ → List ℕ → List ℕ → Option ℕ → Option Form
+solve_form word query folder None = None
+solve_form word query folder (Some nodes) = if bytes_eq word (codes "solve") then Some (query, folder, solve nodes) else None
+
+-- the form of checking, where the first word is `check`, or else that of solving
+abbrev pub four_words : List ℕ → List ℕ → List ℕ → List ℕ → Option Form
+four_words word query folder last = if bytes_eq word (codes "check") then Some (query, folder, check last) else solve_form word query folder (nodes_of last)
+
+-- `solve QUERY DIR` works 10,000 nodes, `solve QUERY DIR NODES` as many as it names; `check QUERY DIR ANSWER`
+abbrev pub form_of : List (List ℕ) → Option Form
+form_of [] = None
+form_of (word ∷ []) = None
+form_of (word ∷ query ∷ []) = None
+form_of (word ∷ query ∷ folder ∷ []) = solve_form word query folder (Some 10000)
+form_of (word ∷ query ∷ folder ∷ last ∷ []) = four_words word query folder last
+form_of (word ∷ query ∷ folder ∷ last ∷ more ∷ words) = None
 
 -- the name of a table's file in a folder
 abbrev pub table_path : List ℕ → List ℕ → List ℕ

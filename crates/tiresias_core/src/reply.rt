@@ -1,11 +1,13 @@
 //! What a run answers, with the status and the text of each answer.
 
 ghost use Rattle.std.specs.Prelude.{◌≡◌, IfOk, string_bytes};
-ghost use Rattle.base_kit.specs.declared.status.Status.TheVariants.{Query, Tables};
+ghost use Rattle.base_kit.specs.declared.status.Status.TheVariants.{Query, Tables, Unreadable};
 ghost use Rattle.tiresias_core.specs.Replies as spec;
+ghost use Rattle.tiresias_core.specs.Verdicts as verdicts;
 
 use answer_text::{Answer, Verdict, write_answer};
 use base_kit::{List, Memory, Status};
+use cert_check::Reject;
 use std::alloc::Global;
 
 /// Why a file is refused.
@@ -28,6 +30,14 @@ pub(crate) enum Reply {
     Query(FileFault, String),
     Table(FileFault, String),
     Answered(Answer),
+    /// The file of an answer that is to be checked.
+    Answer(FileFault, String),
+    /// The line from which on that file is no answer.
+    Unreadable(u32),
+    /// The answer is valid; the objective where it is optimal.
+    Accepted(Option<i64>),
+    /// The answer is not valid: the first reason, with its part and node.
+    Rejected(Reject, u32, u32),
 }
 
 /// The status of a reply.
@@ -39,6 +49,10 @@ pub(crate) fn status_of(reply: &Reply) -> Status
         Reply::Query(fault, _) => fault_status(Status::Query, *fault),
         Reply::Table(fault, _) => fault_status(Status::Tables, *fault),
         Reply::Answered(answer) => verdict_status(&answer.verdict),
+        Reply::Answer(fault, _) => fault_status(Status::Unreadable, *fault),
+        Reply::Unreadable(_) => Status::Unreadable,
+        Reply::Accepted(_) => Status::Done,
+        Reply::Rejected(_, _, _) => Status::Rejected,
     }
 }
 
@@ -73,6 +87,10 @@ pub(crate) fn text_of(alloc: Global, reply: &Reply) -> Result<List<u8>, Memory>
         Reply::Query(fault, name) => fault_line(alloc, *fault, name.as_str()),
         Reply::Table(fault, name) => fault_line(alloc, *fault, name.as_str()),
         Reply::Answered(answer) => write_answer(alloc, answer),
+        Reply::Answer(fault, name) => fault_line(alloc, *fault, name.as_str()),
+        Reply::Unreadable(line) => unreadable_line(alloc, *line),
+        Reply::Accepted(objective) => accepted_line(alloc, *objective),
+        Reply::Rejected(reason, part, node) => rejected_line(alloc, *reason, *part, *node),
     }
 }
 
@@ -87,4 +105,66 @@ fn fault_line(alloc: Global, fault: FileFault, name: &str) -> Result<List<u8>, M
         FileFault::NotBuilt => format!(in alloc; "refused: not built {name}\n")?,
     };
     Ok(List::from_slice(alloc, line.as_bytes())?)
+}
+
+/// The line of bytes that are no answer's text.
+fn unreadable_line(alloc: Global, line: u32) -> Result<List<u8>, Memory>
+    ensures { IfOk result (λ text. text ≡ spec.unreadable_line line) }
+{
+    let text = format!(in alloc; "refused: unreadable answer {line}\n")?;
+    Ok(List::from_slice(alloc, text.as_bytes())?)
+}
+
+/// The line of an answer that is accepted.
+fn accepted_line(alloc: Global, objective: Option<i64>) -> Result<List<u8>, Memory>
+    ensures { IfOk result (λ text. text ≡ spec.accepted_line objective) }
+{
+    match objective {
+        Some(objective) => {
+            let text = format!(in alloc; "accepted optimal {objective}\n")?;
+            Ok(List::from_slice(alloc, text.as_bytes())?)
+        }
+        None => Ok(List::from_slice(alloc, b"accepted impossible\n")?),
+    }
+}
+
+/// The line of an answer that is not valid.
+fn rejected_line(alloc: Global, reason: Reject, part: u32, node: u32) -> Result<List<u8>, Memory>
+    ensures { IfOk result (λ text. text ≡ spec.rejected_line reason part node) }
+{
+    let words = reason_words(reason);
+    let text = format!(in alloc; "rejected: {words} {part} {node}\n")?;
+    Ok(List::from_slice(alloc, text.as_bytes())?)
+}
+
+/// The words of a reason.
+fn reason_words(reason: Reject) -> &'static str
+    ensures { result.now ≡ spec.reason_words reason }
+{
+    match reason {
+        Reject::Unfinished => "unfinished",
+        Reject::WrongProgram => "wrong program",
+        Reject::WrongWorld => "wrong world",
+        Reject::WorldBreaks => "world breaks",
+        Reject::WrongObjective => "wrong objective",
+        Reject::RowHolds => "row holds",
+        Reject::WrongParts => "wrong parts",
+        Reject::BestDiffers => "best differs",
+        Reject::WrongSplit => "wrong split",
+        Reject::OpenNode => "open node",
+        Reject::NotFixed => "not fixed",
+        Reject::FixedBeats => "fixed beats",
+    }
+}
+
+/// The objective of an optimal answer.
+pub(crate) fn objective_of(verdict: &Verdict) -> Option<i64>
+    ensures { result ≡ verdicts.objective_of verdict.now }
+{
+    match verdict {
+        Verdict::Optimal { objective, .. } => Some(*objective),
+        Verdict::FalseRow { .. } => None,
+        Verdict::NoWorld { .. } => None,
+        Verdict::Unfinished { .. } => None,
+    }
 }

@@ -283,7 +283,8 @@ fn other_words_are_refused(rt: HostRuntime) -> Result<(), Fail> {
 
 #[test]
 fn later_commands_are_refused(rt: HostRuntime) -> Result<(), Fail> {
-    refuses(&rt, rt.alloc(), "check q d a")?;
+    refuses(&rt, rt.alloc(), "check q d")?;
+    refuses(&rt, rt.alloc(), "check q d a 10")?;
     refuses(&rt, rt.alloc(), "eval q d a")?;
     refuses(&rt, rt.alloc(), "explain q d")?;
     refuses(&rt, rt.alloc(), "why q d")?;
@@ -453,4 +454,178 @@ fn a_write_that_fails_is_told(rt: HostRuntime) -> Result<(), Fail> {
     assert_eq!(rt; ended, Status::Write);
     assert_eq!(rt; out.bytes(), b"tiresias a".as_slice());
     Ok(())
+}
+
+/// The text with one part of it in the place of another, which stands there once.
+fn changed(alloc: Global, text: &str, part: &str, other: &str) -> Result<String, Fail> {
+    let (before, behind) = text.split_once(part).ok_or("no such part")?;
+    Ok(format!(in alloc; "{before}{other}{behind}")?)
+}
+
+/// Checks an answer to a query over the table, and asserts how it ends.
+fn checks(
+    rt: &impl Abort,
+    alloc: Global,
+    query: &str,
+    answer: &str,
+    status: Status,
+    text: &str,
+) -> Result<(), Fail> {
+    let mut files_held = List::new(alloc);
+    files_held.push(held(alloc, "q", query)?)?;
+    files_held.push(held(alloc, "d/item.csv", TABLE)?)?;
+    files_held.push(held(alloc, "a", answer)?)?;
+    assert!(rt; Held::are_distinct(files_held.as_slice()));
+    let mut shelf = MemoryShelf::new(files_held, List::new(alloc));
+    let mut out = MemorySink::new(alloc, List::new(alloc));
+    let words = words_of(alloc, "check q d a")?;
+    let ended = run(alloc, words.as_slice(), &mut shelf, &mut out);
+    assert_eq!(rt; ended, status);
+    assert_eq!(rt; out.bytes(), text.as_bytes());
+    Ok(())
+}
+
+/// Parts of the listed answer, what stands in their place, and what a check then tells.
+const CHANGED: [(&str, &str, &str); 9] = [
+    (
+        "program 0 0 0",
+        "program 0 0 1",
+        "rejected: wrong program 0 0\n",
+    ),
+    ("\n1,2\n", "\n1,4\n", "rejected: wrong world 0 0\n"),
+    ("\n1,2\n", "\n1,1\n", "rejected: world breaks 0 0\n"),
+    ("optimal 4", "optimal 3", "rejected: wrong objective 0 0\n"),
+    ("columns 0 1", "columns 0", "rejected: wrong parts 0 0\n"),
+    ("best 4", "best 5", "rejected: best differs 1 0\n"),
+    ("fixed\nend", "open\nend", "rejected: open node 1 31\n"),
+    (
+        "split 0 1 plain",
+        "split 0 3 plain",
+        "rejected: wrong split 1 1\n",
+    ),
+    ("world h", "world g", "rejected: wrong world 0 0\n"),
+];
+
+#[test]
+fn changed_answers_are_rejected(rt: HostRuntime) -> Result<(), Fail> {
+    let alloc = rt.alloc();
+    for (part, other, text) in CHANGED {
+        let answer = changed(alloc, LISTED, part, other)?;
+        checks(&rt, alloc, QUERY, answer.as_str(), Status::Rejected, text)?;
+    }
+    Ok(())
+}
+
+#[test]
+fn other_trees_are_rejected(rt: HostRuntime) -> Result<(), Fail> {
+    let alloc = rt.alloc();
+    let (head, _) = LISTED.split_once("split").ok_or("no tree")?;
+    let closed = format!(in alloc; "{head}fixed\nend\n")?;
+    checks(
+        &rt,
+        alloc,
+        QUERY,
+        closed.as_str(),
+        Status::Rejected,
+        "rejected: not fixed 1 1\n",
+    )?;
+    let world = changed(alloc, LISTED, "\n1,2\n", "\n1,3\n")?;
+    let objective = changed(alloc, world.as_str(), "optimal 4", "optimal 5")?;
+    let best = changed(alloc, objective.as_str(), "best 4", "best 5")?;
+    checks(
+        &rt,
+        alloc,
+        QUERY,
+        best.as_str(),
+        Status::Rejected,
+        "rejected: fixed beats 1 23\n",
+    )
+}
+
+#[test]
+fn what_is_written_is_accepted(rt: HostRuntime) -> Result<(), Fail> {
+    let alloc = rt.alloc();
+    let fixed = "tiresias answer 1\nimpossible\nprogram 0 0 0\nrow 0\nend\n";
+    checks(
+        &rt,
+        alloc,
+        QUERY,
+        LISTED,
+        Status::Done,
+        "accepted optimal 4\n",
+    )?;
+    checks(
+        &rt,
+        alloc,
+        NONE_MEETS,
+        NONE_LISTED,
+        Status::Done,
+        "accepted impossible\n",
+    )?;
+    checks(
+        &rt,
+        alloc,
+        ONE_WORLD,
+        fixed,
+        Status::Done,
+        "accepted impossible\n",
+    )?;
+    let meets = changed(alloc, ONE_WORLD, "qty >= 2", "qty >= 0")?;
+    checks(
+        &rt,
+        alloc,
+        meets.as_str(),
+        fixed,
+        Status::Rejected,
+        "rejected: row holds 0 0\n",
+    )?;
+    checks(
+        &rt,
+        alloc,
+        QUERY,
+        LEFT_OPEN,
+        Status::Rejected,
+        "rejected: unfinished 0 0\n",
+    )?;
+    checks(
+        &rt,
+        alloc,
+        QUERY,
+        "",
+        Status::Unreadable,
+        "refused: unreadable answer 1\n",
+    )
+}
+
+#[test]
+fn an_answer_is_fetched_last(rt: HostRuntime) -> Result<(), Fail> {
+    let alloc = rt.alloc();
+    let absent = "refused: absent a\n";
+    ends(
+        &rt,
+        alloc,
+        (QUERY, TABLE),
+        "check q d a",
+        &[],
+        Status::Read,
+        absent,
+    )?;
+    ends(
+        &rt,
+        alloc,
+        (QUERY, TABLE),
+        "check q d a",
+        &[2],
+        Status::Read,
+        "refused: read failed a\n",
+    )?;
+    ends(
+        &rt,
+        alloc,
+        (QUERY, "id,qty\n1,x\n"),
+        "check q d a",
+        &[],
+        Status::Tables,
+        "refused: not built d/item.csv\n",
+    )
 }

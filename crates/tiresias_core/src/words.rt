@@ -5,6 +5,7 @@ ghost use Rattle.std.specs.Char.{is_ascii_digit};
 ghost use Rattle.std.specs.List.{list_all};
 ghost use Rattle.std.specs.Str.Parse.{digits_value};
 ghost use Rattle.tiresias_core.specs.Words as spec;
+ghost use Rattle.tiresias_core.specs.Forms as views;
 
 use base_kit::Memory;
 use std::alloc::Global;
@@ -15,43 +16,82 @@ const DEFAULT_NODES: u32 = 10_000;
 /// The most nodes that the words may name.
 const MOST_NODES: u32 = 100_000;
 
-/// The query's name, the folder and the nodes, where the words are `solve QUERY DIR` or
-/// `solve QUERY DIR NODES` (docs/ANSWERS.md).
-pub(crate) fn solve_form(words: &[String]) -> Option<(&str, &str, u32)>
-    ensures form { option_map (λ form. (form.0.now, form.1.now, form.2)) result ≡ spec.solve_words (map (λ word. string_bytes word) words.now) }
-    ensures nodes { IfSome result (λ form. form.2 ≤ 100000) }
+/// What is to be done.
+#[derive(Clone, Copy, Debug)]
+pub(crate) enum Command<'a> {
+    /// To solve within so many nodes.
+    Solve { nodes: u32 },
+    /// To check the answer of this name.
+    Check { answer: &'a str },
+}
+
+/// What the words ask: the query's name, the folder of its tables, and what is to be done.
+#[derive(Clone, Copy, Debug)]
+pub(crate) struct Form<'a> {
+    pub(crate) query: &'a str,
+    pub(crate) folder: &'a str,
+    pub(crate) command: Command<'a>,
+}
+
+/// What is asked, where the words are `solve QUERY DIR`, `solve QUERY DIR NODES` or
+/// `check QUERY DIR ANSWER` (docs/ANSWERS.md).
+pub(crate) fn form_of(words: &[String]) -> Option<Form<'_>>
+    ensures form { option_map views.form result ≡ spec.form_of (map (λ word. string_bytes word) words.now) }
+    ensures nodes { IfSome result views.IsBudgeted }
 {
     match words {
-        [word, query, folder] => form_of(
+        [word, query, folder] => solve_form(
             word.as_str(),
             query.as_str(),
             folder.as_str(),
             Some(DEFAULT_NODES),
         ),
-        [word, query, folder, nodes] => form_of(
+        [word, query, folder, last] => four_words(
             word.as_str(),
             query.as_str(),
             folder.as_str(),
-            nodes_of(nodes.as_bytes()),
+            last.as_str(),
         ),
         _ => None,
     }
 }
 
-/// The form with these nodes, where the first word is `solve`.
-fn form_of<'a>(
+/// The form of checking, where the first word is `check`, or else that of solving.
+fn four_words<'a>(word: &str, query: &'a str, folder: &'a str, last: &'a str) -> Option<Form<'a>>
+    ensures form { option_map views.form result ≡ spec.four_words word.now query.now folder.now last.now }
+    ensures nodes { IfSome result views.IsBudgeted }
+{
+    if word == "check" {
+        let command = Command::Check { answer: last };
+        Some(Form {
+            query,
+            folder,
+            command,
+        })
+    } else {
+        solve_form(word, query, folder, nodes_of(last.as_bytes()))
+    }
+}
+
+/// The form of solving with these nodes, where the first word is `solve`.
+fn solve_form<'a>(
     word: &str,
     query: &'a str,
     folder: &'a str,
     nodes: Option<u32>,
-) -> Option<(&'a str, &'a str, u32)>
+) -> Option<Form<'a>>
     requires { IfSome nodes (λ count. count ≤ 100000) }
-    ensures form { option_map (λ form. (form.0.now, form.1.now, form.2)) result ≡ spec.form_of word.now query.now folder.now nodes }
-    ensures nodes { IfSome result (λ form. form.2 ≤ 100000) }
+    ensures form { option_map views.form result ≡ spec.solve_form word.now query.now folder.now nodes }
+    ensures nodes { IfSome result views.IsBudgeted }
 {
-    let count = nodes?;
+    let nodes = nodes?;
     if word == "solve" {
-        Some((query, folder, count))
+        let command = Command::Solve { nodes };
+        Some(Form {
+            query,
+            folder,
+            command,
+        })
     } else {
         None
     }

@@ -4,6 +4,7 @@ use Rattle.std.specs.List.{list_all}
 use Rattle.std.specs.Ordering.{int_eq}
 use Rattle.base_kit.specs.declared.value.Value.{Value}
 use Rattle.base_kit.specs.declared.value.Value.TheVariants.{Int, Text}
+use Rattle.ip_rows.specs.declared.Bounds.{Bounds}
 use Rattle.tiql_read.specs.declared.query.FirstQuery.{FirstQuery}
 use Rattle.tiql_read.specs.declared.query.FirstCmp.{FirstCmp}
 use Rattle.tiql_read.specs.declared.query.FirstCmp.TheVariants as cmp
@@ -63,6 +64,10 @@ IsBest query table world = best.IsBest (IsPossible query table) (Meets query) (s
 
 abbrev pub NoneMeets : FirstQuery → Rows → Type 0
 NoneMeets query table = best.NoneMeets (IsPossible query table) (Meets query)
+
+-- the sides of the set column, for each row of the table
+abbrev pub root : FirstQuery → Rows → List Bounds
+root query table = map (λ row. record { lo = query.lo; hi = query.hi }) table
 
 -- the world with these numbers in the set column, from the first row on
 abbrev pub filled : FirstQuery → Rows → List ℤ → Rows

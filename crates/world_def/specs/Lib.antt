@@ -1,2 +1,3 @@
 pub mod Best
 pub mod First
+pub mod Places

@@ -1,4 +1,4 @@
-use Rattle.first_listing.proofs.Rows.{counted}
+use Rattle.first_listing.proofs.Counts.{counted}
 use Rattle.first_listing.proofs.answer.columns_of.Goals as goal
 
 pub loop-column-preserved : goal.loop-column-preserved

@@ -1,5 +1,5 @@
 use Rattle.std.proofs.Common.{◌≡◌}
-use Rattle.first_listing.specs.Parts.{count_from}
+use Rattle.cert_check.specs.Parts.{count_from}
 use Rattle.first_listing.proofs.answer.columns_of.Given as goal
 
 abbrev pub invariant-loop-column : goal.invariant-loop-column

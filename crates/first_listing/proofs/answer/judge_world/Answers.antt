@@ -8,9 +8,9 @@ use Rattle.branch_tree.specs.Listing.{InBox, AreSides, AreFixed, has_two, lows}
 use Rattle.branch_tree.proofs.Columns.{one_point}
 use Rattle.branch_tree.proofs.Covering.{lows_inside}
 use Rattle.branch_bound.specs.declared.search.Found.{Found}
-use Rattle.world_def.specs.First.{IsBest, filled, value_of}
-use Rattle.first_listing.specs.Parts.{root, ArePartsFor, AreParts}
-use Rattle.first_listing.proofs.Worlds.{root_sides}
+use Rattle.world_def.specs.First.{IsBest, filled, value_of, root}
+use Rattle.first_listing.specs.Parts.{ArePartsFor, AreParts}
+use Rattle.cert_check.proofs.Worlds.{root_sides}
 use Rattle.first_listing.proofs.Tells.{tells_optimal, one_best, one_fails}
 use Rattle.first_listing.proofs.answer.judge_world.Goals as goal
 

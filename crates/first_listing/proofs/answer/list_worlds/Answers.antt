@@ -1,13 +1,13 @@
 use Rattle.std.proofs.Common.{◌≡◌, List, ap, sym, ◌∙◌, subst, refl, arith}
-use Rattle.std.specs.Prelude.{Some}
+use Rattle.std.specs.Prelude.{Some, IsSome, position}
 use Rattle.ip_rows.specs.declared.Bounds.{Bounds}
 use Rattle.branch_tree.specs.Tree.{pending_nodes}
-use Rattle.branch_tree.specs.Listing.{AreSides}
+use Rattle.branch_tree.specs.Listing.{AreSides, has_two}
 use Rattle.branch_bound.specs.declared.search.Listed.{Listed}
 use Rattle.branch_bound.specs.Works.{Lists, best_value}
-use Rattle.world_def.specs.First.{value_of}
-use Rattle.first_listing.specs.Parts.{root, IsWhole}
-use Rattle.first_listing.proofs.Worlds.{root_sides}
+use Rattle.world_def.specs.First.{value_of, root}
+use Rattle.first_listing.specs.Parts.{IsWhole}
+use Rattle.cert_check.proofs.Worlds.{root_sides}
 use Rattle.first_listing.proofs.Tells.{tells_optimal, tells_parts, listed_of, lists_done, lists_undone, found_inside, found_value, found_best, found_none}
 use Rattle.first_listing.proofs.answer.list_worlds.Goals as goal
 
@@ -64,6 +64,7 @@ returns-in-None c =
     subst (λ (l : List Bounds). Lists (value_of c.args.query.now c.args.table.now) l c.args.budget listed) c.requires.root c.in_ok-tree.ensures in
     let none : pending_nodes listed.tree ≡ 0 = let count = c.pending-pending.ensures in let few = c.if-pending-gt0.false in omega arith in
     record {
+      several = subst (λ (l : List Bounds). IsSome (position has_two l)) c.requires.root c.requires.several;
       whole = record {
         listed = listed_of c.args.query.now c.args.table.now c.args.budget listed c.in_ok-part.part lists c.in_ok-part.ensures.number c.in_ok-part.ensures.columns (c.in_ok-part.ensures.best ∙ c.score_of.ensures) c.in_ok-part.ensures.tree;
         done = lists_done c.args.query.now c.args.table.now c.args.budget listed lists none;

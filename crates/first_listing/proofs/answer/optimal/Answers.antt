@@ -3,9 +3,9 @@ use Rattle.std.proofs.lemmas.Int.{to_z-of_z}
 use mir.Val.{to_z, of_z, SFits}
 use mir.Syntax.{w64, w128}
 use Rattle.world_def.specs.First.{filled}
-use Rattle.first_listing.specs.Parts.{IsSection}
-use Rattle.first_listing.proofs.Sizes.{score_fits}
-use Rattle.first_listing.proofs.Worlds.{score_of_value}
+use Rattle.cert_check.specs.Parts.{IsSection}
+use Rattle.cert_check.proofs.Sizes.{score_fits}
+use Rattle.cert_check.proofs.Worlds.{score_of_value}
 use Rattle.first_listing.proofs.answer.optimal.Goals as goal
 
 pub overflow_cast-result : goal.overflow_cast-result

@@ -2,7 +2,7 @@ use Rattle.std.proofs.Common.{◌≡◌, ℕ, List, length, ap, sym, ◌∙◌, 
 use Rattle.std.specs.List.{All}
 use Rattle.tables_csv.specs.Tables.{HasNumbers}
 use Rattle.world_def.specs.First.{Rows, filled}
-use Rattle.first_listing.proofs.Sizes.{filled_numbers, length-filled}
+use Rattle.cert_check.proofs.Sizes.{filled_numbers, length-filled}
 use Rattle.first_listing.proofs.answer.section_of.Goals as goal
 
 pub first_table_text-requires-clause-numbers : goal.first_table_text-requires-clause-numbers

@@ -1,8 +1,8 @@
 use Rattle.std.proofs.Common.{map}
 use Rattle.std.specs.Prelude.{string_bytes}
 use Rattle.tiresias_core.specs.Visits.{visit}
-use Rattle.tiresias_core.proofs.Saying.{done_says, impossible_says, unfinished_says, words_says, query_says, tables_says, read_says, write_says}
-use Rattle.tiresias_core.proofs.Calling.{only_words_says, refused_says, answered_says, none_says, enough_says, writes_says}
+use Rattle.tiresias_core.proofs.Saying.{done_says, impossible_says, unfinished_says, words_says, query_says, tables_says, read_says, rejected_says, unreadable_says, write_says}
+use Rattle.tiresias_core.proofs.Calling.{only_words_says, refused_says, answered_says, none_says, enough_says, checked_says, accepts_says, writes_says}
 use Rattle.tiresias_core.proofs.engine.run.Goals as goal
 
 pub returns-clause-done : goal.returns-clause-done
@@ -57,3 +57,17 @@ returns-clause-writes g c = λ whole. writes_says (map (λ word. string_bytes wo
 
 pub returns-clause-reads : goal.returns-clause-reads
 returns-clause-reads g c = c.respond.ensures.reads
+
+pub returns-clause-rejected : goal.returns-clause-rejected
+returns-clause-rejected g c = rejected_says (map (λ word. string_bytes word) c.args.words.now) (visit g.S.Shelf.held g.S.Shelf.misses g.S.Shelf.faults c.args.shelf.now c.respond.new.shelf)
+    (g.K.Sink.written c.args.out.now) (g.K.Sink.written c.respond.new.out) (g.K.Sink.faults c.args.out.now) (g.K.Sink.faults c.respond.new.out) _ c.respond.ensures.leaves
+
+pub returns-clause-unreadable : goal.returns-clause-unreadable
+returns-clause-unreadable g c = unreadable_says (map (λ word. string_bytes word) c.args.words.now) (visit g.S.Shelf.held g.S.Shelf.misses g.S.Shelf.faults c.args.shelf.now c.respond.new.shelf)
+    (g.K.Sink.written c.args.out.now) (g.K.Sink.written c.respond.new.out) (g.K.Sink.faults c.args.out.now) (g.K.Sink.faults c.respond.new.out) _ c.respond.ensures.leaves
+
+pub returns-clause-checked : goal.returns-clause-checked
+returns-clause-checked g c = λ told whole room. checked_says (map (λ word. string_bytes word) c.args.words.now) (visit g.S.Shelf.held g.S.Shelf.misses g.S.Shelf.faults c.args.shelf.now c.respond.new.shelf) told (g.K.Sink.written c.args.out.now) (g.K.Sink.written c.respond.new.out) (g.K.Sink.faults c.args.out.now) (g.K.Sink.faults c.respond.new.out) _ c.respond.ensures.leaves whole room
+
+pub returns-clause-accepts : goal.returns-clause-accepts
+returns-clause-accepts g c = λ told whole room. accepts_says (map (λ word. string_bytes word) c.args.words.now) (visit g.S.Shelf.held g.S.Shelf.misses g.S.Shelf.faults c.args.shelf.now c.respond.new.shelf) told (g.K.Sink.written c.args.out.now) (g.K.Sink.written c.respond.new.out) (g.K.Sink.faults c.args.out.now) (g.K.Sink.faults c.respond.new.out) _ c.respond.ensures.leaves whole room
