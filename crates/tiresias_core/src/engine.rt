@@ -126,12 +126,10 @@ fn decide<S: Shelf>(alloc: Global, words: &[String], shelf: &mut S) -> Result<Re
         Err(FirstTableFault::Memory) => return Err(Memory),
     };
     match command {
-        Command::Solve { nodes } => Ok(Reply::Answered(answer_first(
-            alloc,
-            &query,
-            rows.as_slice(),
-            nodes,
-        )?)),
+        Command::Solve { nodes } => {
+            let answer = answer_first(alloc, &query, rows.as_slice(), nodes)?;
+            Ok(Reply::Answered(answer))
+        }
         Command::Check { answer } => audit(alloc, shelf, answer, &query, &rows),
     }
 }

@@ -569,7 +569,13 @@ fn what_is_written_is_accepted(rt: HostRuntime) -> Result<(), Fail> {
         fixed,
         Status::Done,
         "accepted impossible\n",
-    )?;
+    )
+}
+
+#[test]
+fn other_answers_are_not(rt: HostRuntime) -> Result<(), Fail> {
+    let alloc = rt.alloc();
+    let fixed = "tiresias answer 1\nimpossible\nprogram 0 0 0\nrow 0\nend\n";
     let meets = changed(alloc, ONE_WORLD, "qty >= 2", "qty >= 0")?;
     checks(
         &rt,

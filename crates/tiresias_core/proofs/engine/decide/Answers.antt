@@ -108,7 +108,7 @@ returns-in-Solve-clause-cause g c =
       },
       c.in-Solve.nodes,
       ap command c.in-Solve.is,
-      subst (λ (l : Rows). Answers c.in-Ok-read_first.query l c.in-Solve.nodes c.in_ok-answer_first-in-Solve.field-0) c.as_slice-in-Solve.ensures c.in_ok-answer_first-in-Solve.ensures,
+      subst (λ (l : Rows). Answers c.in-Ok-read_first.query l c.in-Solve.nodes c.in_ok-answer-in-Solve.answer) c.as_slice-in-Solve.ensures c.in_ok-answer-in-Solve.ensures,
     )
 
 pub audit-requires-clause-query : goal.audit-requires-clause-query
