@@ -1,0 +1,5 @@
+pub mod Kinds
+pub mod Lexed
+pub mod Lexemes
+pub mod Places
+pub mod Scan
