@@ -46,14 +46,14 @@ run_passes p (x ∷ xs) = by_test (p x) refl (run_passes p xs)
     by_test true e more = let s : 1 + prefix_len p xs ≡ suc (prefix_len p xs) = omega arith in rw (s, e) more
     by_test false e more = refl
 
-head_passes : (p : ℕ → Bool) (x : ℕ) (xs : List ℕ) → list_all p (x ∷ xs) ≡ true → p x ≡ true
+pub head_passes : (p : ℕ → Bool) (x : ℕ) (xs : List ℕ) → list_all p (x ∷ xs) ≡ true → p x ≡ true
 head_passes p x xs h = by_test (p x) h
   where
     by_test : (b : Bool) → (b && list_all p xs) ≡ true → b ≡ true
     by_test true h = refl
     by_test false h = h
 
-tail_passes : (p : ℕ → Bool) (xs ys : List ℕ) → list_all p (xs ++ ys) ≡ true → list_all p ys ≡ true
+pub tail_passes : (p : ℕ → Bool) (xs ys : List ℕ) → list_all p (xs ++ ys) ≡ true → list_all p ys ≡ true
 tail_passes p [] ys h = h
 tail_passes p (x ∷ xs) ys h = by_test (p x) (tail_passes p xs ys) h
   where

@@ -1,0 +1,14 @@
+pub mod Alike
+pub mod CondMaking
+pub mod Erase
+pub mod GoodWords
+pub mod Lines
+pub mod Making
+pub mod Neat
+pub mod NeatCond
+pub mod NeatQuery
+pub mod NeatTrees
+pub mod NeatWords
+pub mod Parts
+pub mod Theorem
+pub mod Written

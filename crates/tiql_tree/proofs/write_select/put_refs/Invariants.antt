@@ -1,0 +1,8 @@
+use Rattle.std.proofs.Common.{◌≡◌, ◌++◌, drop}
+use Rattle.std.specs.List.{flat_map}
+use Rattle.tiql_tree.specs.Bytes.{listed, comma_space, ref_bytes}
+use Rattle.tiql_tree.proofs.write_select.put_refs.Given as goal
+
+abbrev pub invariant-loop-column : goal.invariant-loop-column
+invariant-loop-column l =
+    l.out.items ++ flat_map (λ other. comma_space ++ ref_bytes other) (drop l.column-index l.more) ≡ l.fn.out.items ++ listed comma_space ref_bytes l.refs

@@ -1,0 +1,11 @@
+pub mod Bytes
+pub mod CondRooms
+pub mod Grammar
+pub mod Nesting
+pub mod Printed
+pub mod Rooms
+pub mod Spelled
+pub mod Texts
+pub mod Trees
+pub mod Unplaced
+pub mod Words
