@@ -11,4 +11,5 @@ pub mod NeatTrees
 pub mod NeatWords
 pub mod Parts
 pub mod Theorem
+pub mod Worked
 pub mod Written
