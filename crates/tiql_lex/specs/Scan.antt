@@ -38,11 +38,6 @@ value_from value ended (b ∷ bs) =
     if b == 39 then value_from (if ended then value ++ b ∷ [] else value) (not ended) bs else (
     if ended then None else value_from (value ++ b ∷ []) false bs)
 
--- what a text in quotes says, if it is ended
-abbrev pub value_of_text : List ℕ → Option (List ℕ)
-value_of_text [] = None
-value_of_text (b ∷ bs) = value_from [] false bs
-
 -- the position is one in the bytes, with its place
 pub record IsPosition (bytes : List ℕ) (position : Position) : Type 0 where
   pub start : mark_size bytes ≤ position.at

@@ -4,7 +4,7 @@ ghost use Rattle.std.specs.Str.{IsUtf8};
 ghost use Rattle.tiql_lex.specs.declared.token.Token.{Token};
 ghost use Rattle.tiql_lex.specs.Kinds as kinds;
 ghost use Rattle.tiql_lex.specs.Lexed.{Stands, Skips};
-ghost use Rattle.tiql_lex.specs.Lexemes.{begins_with, is_lexeme};
+ghost use Rattle.tiql_lex.specs.Lexemes.{is_lexeme};
 ghost use Rattle.tiql_lex.specs.Places as places;
 ghost use Rattle.tiql_lex.specs.Scan.{IsPosition};
 
@@ -123,9 +123,8 @@ fn fits(alloc: Global, kind: TokenKind, lexeme: &[u8]) -> Result<bool, Memory>
     }
 }
 
-// Whether a lexeme that begins with a quote is a text in quotes, of UTF-8 and at most 1,000 bytes.
+// Whether a lexeme is a text in quotes, of UTF-8 and at most 1,000 bytes.
 fn is_text(alloc: Global, lexeme: &[u8]) -> Result<bool, Memory>
-    requires { begins_with 39 lexeme.now ≡ true }
     ensures yes { IfOk result (λ yes. yes ≡ true → kinds.IsText lexeme.now) }
     ensures no { IfOk result (λ yes. yes ≡ false → kinds.IsText lexeme.now → ⊥) }
 {

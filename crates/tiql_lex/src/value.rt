@@ -1,10 +1,10 @@
 //! What numbers and texts in quotes say.
-ghost use Rattle.std.specs.Prelude.{◌≡◌, ◌^◌, ◌&&◌, pos, nat_le, false, [], IfOk, if◌then◌else◌};
+ghost use Rattle.std.specs.Prelude.{◌≡◌, ◌^◌, ◌&&◌, pos, nat_le, false, List, ℕ, [], IfOk, IfSome, IfNone, if◌then◌else◌};
 ghost use Rattle.std.specs.Option.{option_map};
 ghost use Rattle.std.specs.Char.{is_ascii_digit};
 ghost use Rattle.std.specs.List.{list_all};
 ghost use Rattle.std.specs.Str.Parse.{digits_value};
-ghost use Rattle.tiql_lex.specs.Kinds.{is_number};
+ghost use Rattle.tiql_lex.specs.Kinds.{is_number, quoted};
 ghost use Rattle.tiql_lex.specs.Scan as scan;
 
 use base_kit::Memory;
@@ -42,13 +42,17 @@ fn value_of(text: &[u8]) -> Option<u64>
     Some(value)
 }
 
-/// What a text in quotes says, where it is one that is ended: two quotes within stand for one.
+/// What a text in quotes says, unless the bytes are none: a quote, the value with two quotes for one, and a quote.
 pub fn text_value(alloc: Global, text: &[u8]) -> Result<Option<Vec<u8>>, Memory>
-    ensures { IfOk result (λ found. option_map (λ value. value.items) found ≡ scan.value_of_text text.now) }
+    ensures some { IfOk result (λ found. IfSome found (λ value. text.now ≡ quoted value.items)) }
+    ensures none { IfOk result (λ found. IfNone found ((value : List ℕ) → text.now ≡ quoted value → ⊥)) }
 {
-    let [_, rest @ ..] = text else {
+    let [first, rest @ ..] = text else {
         return Ok(None);
     };
+    if *first != b'\'' {
+        return Ok(None);
+    }
     value_behind(alloc, rest)
 }
 
