@@ -1,5 +1,5 @@
 -- how the text of a query is made: for each rule of the grammar the choices that it leaves. Braces of the grammar are lists,
--- and square brackets are options, empty lists or truths
+-- and its square brackets are options or truths
 use Rattle.std.specs.Prelude.{ℕ, Bool, List}
 use Rattle.std.specs.declared.option.Option.{Option}
 use Rattle.tiql_tree.specs.declared.condition.TreeCmp.{TreeCmp}
