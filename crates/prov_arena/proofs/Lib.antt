@@ -1,0 +1,6 @@
+mod Items
+mod Spellings
+mod ChainLemmas
+mod Blanks
+mod GraphLemmas
+mod StartLemmas

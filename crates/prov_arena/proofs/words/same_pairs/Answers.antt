@@ -1,0 +1,9 @@
+use Rattle.std.proofs.Common.{rules}
+use Rattle.std.proofs.lemmas.Slice.Eq.{slice_eq-Decides}
+use Rattle.prov_arena.proofs.Items.{pair_Decides}
+use Rattle.prov_arena.proofs.words.same_pairs.Goals as goal
+
+pub returns : goal.returns
+returns c =
+    let h = slice_eq-Decides pair_Decides c.args.a.now c.args.b.now c.eq.result c.eq.ensures in
+    search (rules, h.0, h.1)
