@@ -1,0 +1,21 @@
+use Rattle.std.proofs.Common.{◌≡◌, ◌≢◌, ◌<◌, ◌≤◌, ◌+◌, ℕ, rules, arith, ap, length, get_or, refl, None}
+use Rattle.tiql_query.proofs.Finding.{none_before_none, first_here, none_here, both_none, not_none, none_left}
+use Rattle.tiql_query.proofs.query.Query.find_hypo.Goals as goal
+
+pub loop-hypo-init : goal.loop-hypo-init
+loop-hypo-init c = (refl, none_before_none _ _)
+
+pub returns-then-eq-clause-first : goal.returns-then-eq-clause-first
+returns-then-eq-clause-first c = first_here (λ it. it.name) c.args.name.now c.args.self.now.hypos c.loop-hypo.hypo-index c.loop-hypo.number c.hypo-item.result c.loop-hypo.invariant.0 (omega (arith, ap length c.as_slice-hypo-items.ensures)) (search rules) (search rules) c.loop-hypo.invariant.1
+
+pub returns-then-eq-clause-none : goal.returns-then-eq-clause-none
+returns-then-eq-clause-none c = λ few. not_none (λ it. it.name) c.args.name.now c.args.self.now.hypos c.loop-hypo.hypo-index c.loop-hypo.number c.hypo-item.result (omega (arith, ap length c.as_slice-hypo-items.ensures)) (search rules) (search rules)
+
+pub returns-in_err-number-clause-none : goal.returns-in_err-number-clause-none
+returns-in_err-number-clause-none c = λ few. both_none (λ it. it.name) c.args.name.now c.args.self.now.hypos c.from_residual.result (c.loop-hypo.hypo-index + 1) c.from_residual.ensures (none_left few (c.loop-hypo.invariant.0) (λ more. c.in_err-number.ensures more)) (none_here (λ it. it.name) c.args.name.now c.args.self.now.hypos c.loop-hypo.hypo-index c.hypo-item.result (omega (arith, ap length c.as_slice-hypo-items.ensures)) (search rules) (search rules) c.loop-hypo.invariant.1)
+
+pub loop-hypo-preserved : goal.loop-hypo-preserved
+loop-hypo-preserved c = (grind arith, none_here (λ it. it.name) c.args.name.now c.args.self.now.hypos c.loop-hypo.hypo-index c.hypo-item.result (omega (arith, ap length c.as_slice-hypo-items.ensures)) (search rules) (search rules) c.loop-hypo.invariant.1)
+
+pub returns-clause-none : goal.returns-clause-none
+returns-clause-none c = λ few. both_none (λ it. it.name) c.args.name.now c.args.self.now.hypos None c.loop-hypo.hypo-index refl (omega (arith, ap length c.as_slice-hypo-items.ensures)) c.loop-hypo.invariant.1
