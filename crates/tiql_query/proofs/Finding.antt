@@ -1,5 +1,5 @@
 -- a search through the names of relations, one by one
-use Rattle.std.proofs.Common.{◌≡◌, ◌≢◌, ◌<◌, ◌≤◌, ◌+◌, ℕ, List, [], Option, Some, None, length, map, get_or, sym, ◌∙◌, subst, ap, rules, arith, ◌⊎◌, inl, inr}
+use Rattle.std.proofs.Common.{◌≡◌, ◌≢◌, ◌<◌, ◌≤◌, ◌+◌, ℕ, List, [], Option, Some, None, length, map, get_or, sym, ◌∙◌, subst, ap, arith, ◌⊎◌, inl, inr}
 use Rattle.std.proofs.lemmas.List.{get_or-map, length-map}
 use Rattle.std.proofs.lemmas.Bool.{cases_lt}
 use Rattle.std.proofs.lemmas.Option.{none-some}
@@ -31,9 +31,10 @@ module _ {X : Type 0} (f : X → List ℕ) (name : List ℕ) (xs : List X) where
 
   pub not_none : (i number : ℕ) (x : X) → i < length xs → x ≡ get_or xs i x → f x ≡ name → (Some number ≡ None → HasNone name (map f xs)) × (HasNone name (map f xs) → Some number ≡ None)
   unfolding NoneBefore HasNone
-  not_none i number x lt is same =
-      ( (λ e. absurd (none-some number (sym e)))
-      , (λ none. absurd (none i (subst (λ n. i < n) (sym (length-map xs f)) lt) (this_name i x lt is ∙ same))) )
+  not_none i number x lt is same = (
+    (λ e. absurd (none-some number (sym e))),
+    (λ none. absurd (none i (subst (λ n. i < n) (sym (length-map xs f)) lt) (this_name i x lt is ∙ same))),
+  )
 
   pub both_none : (r : Option ℕ) (i : ℕ) → r ≡ None → length xs ≤ i → NoneBefore name (map f xs) i → (r ≡ None → HasNone name (map f xs)) × (HasNone name (map f xs) → r ≡ None)
   both_none r i e le none = ((λ is. none_at_all i le none), (λ is. e))

@@ -1,4 +1,4 @@
-use Rattle.std.proofs.Common.{◌≡◌, ◌≢◌, ◌<◌, ◌≤◌, ◌+◌, ℕ, rules, arith, ap, length, get_or, refl, None}
+use Rattle.std.proofs.Common.{◌+◌, rules, arith, ap, length, refl, None}
 use Rattle.tiql_query.proofs.Finding.{none_before_none, first_here, none_here, both_none, not_none, none_left}
 use Rattle.tiql_query.proofs.query.Query.find_hypo.Goals as goal
 
