@@ -1,7 +1,9 @@
-ghost use Rattle.std.specs.Prelude.{◌<◌, IfOk};
+ghost use Rattle.std.specs.Prelude.{◌<◌, IfOk, IsTrue};
+ghost use Rattle.prov_arena.specs.Formulas.{formula};
 ghost use Rattle.prov_fold.specs.Graphs.{HasTruth};
+ghost use Rattle.prov_fold.specs.Values.{HasColumn, HasNumbers, IsThere};
 
-use crate::{Fold, FoldFault, Pair, Scaled, Span};
+use crate::{Fold, FoldFault, Pair, Part, Scaled, Span};
 use bumpalo::Bump;
 use std::test::Fail;
 
@@ -51,6 +53,12 @@ fn a_shared_tree_stays_small(rt: HostRuntime) -> Result<(), Fail> {
         truth = level(&mut fold, truth, k)?;
     }
     assert_eq!(rt; fold.prov().len(), 303);
+    let world = [1i64; 121];
+    let mut values = [0i64; 303];
+    assert!(rt; is_world(&fold, &world));
+    fold.fill(&world, &mut values);
+    assert_eq!(rt; truth, 302);
+    assert_eq!(rt; values[302], 1);
     Ok(())
 }
 
@@ -109,4 +117,47 @@ fn level(fold: &mut Fold<'_>, truth: u32, k: u32) -> Result<u32, FoldFault>
     let left = fold.or(&[truth, a])?;
     let right = fold.or(&[truth, b])?;
     fold.and(&[left, right])
+}
+
+/// Whether a world has a number for each column that the list names, within its range.
+fn is_world(fold: &Fold<'_>, world: &[i64]) -> bool
+    ensures { IsTrue result → HasNumbers fold.now world.now }
+{
+    for id in 0..fold.prov().len() {
+        if !has_column(fold.node(id), fold.range(id), world) {
+            return false;
+        }
+    }
+    true
+}
+
+/// The same of the column that a part names.
+fn has_column(part: Part<'_>, range: Span, world: &[i64]) -> bool
+    ensures { IsTrue result → HasColumn world.now range (formula part.entry) }
+{
+    match part {
+        Part::Pres(column) => is_there(world, column, range),
+        Part::Cell(column) => is_there(world, column, range),
+        Part::False => true,
+        Part::True => true,
+        Part::Pos(_) => true,
+        Part::Not(_) => true,
+        Part::And(_) => true,
+        Part::Or(_) => true,
+        Part::Lin(_, _) => true,
+        Part::Guard(_, _) => true,
+        Part::Abs(_) => true,
+        Part::Tot(_) => true,
+        Part::Min(_) => true,
+    }
+}
+
+/// Whether a column's number is there, and lies in the range.
+fn is_there(world: &[i64], column: u32, range: Span) -> bool
+    ensures { IsTrue result → IsThere world.now column range }
+{
+    match world.get(column as usize) {
+        Some(number) => range.lo <= *number && *number <= range.hi,
+        None => false,
+    }
 }
