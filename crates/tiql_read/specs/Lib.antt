@@ -1,6 +1,8 @@
+pub mod Conditions
+pub mod Expressions
 pub mod FirstTexts
-pub mod Reading
-pub mod Resolving
-pub mod Scan
-pub mod Tokens
-pub mod Views
+pub mod Outcomes
+pub mod Queries
+pub mod Selects
+pub mod Steps
+pub mod Stops

@@ -1,12 +1,18 @@
-//! Reads first texts: the queries over one table of whole numbers.
+//! Reads the text of a query into its tree.
 #![tactic(auto)]
 
-mod first;
-mod numbers;
-mod parts;
+mod column;
+mod condition;
+mod declaration;
+mod expression;
+mod item;
+mod leaf;
+mod list;
 mod query;
-mod resolve;
-mod tokens;
+mod reader;
+mod select;
+mod whole;
+mod word;
 
-pub use first::read_first;
-pub use query::{FirstCmp, FirstFault, FirstQuery};
+pub use query::{FirstCmp, FirstQuery};
+pub use reader::{ReadFault, read_query};

@@ -1,8 +1,7 @@
 //! What a first text says.
 
 use base_kit::{Duplicate, List, Memory, Name};
-use std::alloc::{AllocError, Global};
-use thiserror::Error;
+use std::alloc::Global;
 
 /// How the tested column is compared with the number.
 #[derive(Clone, Copy, Debug, PartialEq, Eq)]
@@ -66,38 +65,5 @@ impl Duplicate for FirstQuery {
             against: self.against,
             summed: self.summed,
         })
-    }
-}
-
-/// Why no query was read.
-#[derive(Clone, Copy, Debug, PartialEq, Eq, Error)]
-pub enum FirstFault {
-    /// The bytes are no first text (docs/LANGUAGE.md, "First texts").
-    #[error("not a first text")]
-    NotBuilt,
-    /// There was not enough memory.
-    #[error("out of memory")]
-    Memory,
-}
-
-impl From<Memory> for FirstFault {
-    ghost use Rattle.std.specs.Prelude.{◌≡◌};
-    ghost use Rattle.tiql_read.specs.declared.query.FirstFault.{FirstFault};
-
-    ghost from_gives = { λ _ fault. fault ≡ FirstFault.Memory };
-
-    fn from(_fault: Memory) -> FirstFault {
-        FirstFault::Memory
-    }
-}
-
-impl From<AllocError> for FirstFault {
-    ghost use Rattle.std.specs.Prelude.{◌≡◌};
-    ghost use Rattle.tiql_read.specs.declared.query.FirstFault.{FirstFault};
-
-    ghost from_gives = { λ _ fault. fault ≡ FirstFault.Memory };
-
-    fn from(_fault: AllocError) -> FirstFault {
-        FirstFault::Memory
     }
 }

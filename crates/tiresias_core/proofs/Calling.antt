@@ -8,8 +8,11 @@ use Rattle.outside_io.specs.Shelves.{Contents}
 use Rattle.answer_text.specs.declared.answer.Verdict.{Verdict}
 use Rattle.answer_text.specs.declared.answer.Verdict.TheVariants as verdict
 use Rattle.tiql_read.specs.declared.query.FirstQuery.{FirstQuery}
-use Rattle.tiql_read.specs.FirstTexts.{IsFirstText}
-use Rattle.tiql_read.proofs.FirstReading.{first_text-one, first_text-query}
+use Rattle.base_kit.specs.declared.place.Place.{Place}
+use Rattle.tiql_tree.specs.Spelled.{IsStop as IsSyntaxStop}
+use Rattle.tiql_read.proofs.Single.{one_stop}
+use Rattle.tiresias_core.specs.FirstTrees.{IsFirstText}
+use Rattle.tiresias_core.proofs.FirstReading.{first_text-one, first_text-query, unbuilt_text, stopped_text, stopped_unbuilt}
 use Rattle.answer_text.specs.Answers.{AnswerText, IsStop, line_of}
 use Rattle.answer_text.specs.declared.answer.Answer.{Answer}
 use Rattle.answer_text.proofs.AnswerTexts.{one_answer}
@@ -24,9 +27,9 @@ use Rattle.branch_tree.specs.Listing.{points}
 use Rattle.branch_tree.proofs.Counting.{worked_below}
 use Rattle.tiresias_core.specs.Words.{Command, Form, solve, check, form_of, table_path}
 use Rattle.tiresias_core.specs.Visits.{Visit, Holds, IsLong}
-use Rattle.tiresias_core.specs.Causes.{IsReply, Asks, Accepted, FileStops, QueryStops, TableStops, Audits, Reads, IsUnreadable}
-use Rattle.tiresias_core.specs.Exact.{IsTold, Refusal, of_query, of_table, of_answer, of_line, refusal_status, refusal_line, outcome_status, outcome_line, QueryCalls, TableCalls, AnswerCalls, LineCalls, Calls, IsAnswered}
-use Rattle.tiresias_core.specs.Replies.{status_of, text_of, fault_line, fault_status, accepted_line, unreadable_line, verdict_status}
+use Rattle.tiresias_core.specs.Causes.{IsReply, IsUnbuilt, Asks, Accepted, FileStops, QueryStops, SyntaxStops, TableStops, Audits, Reads, IsUnreadable}
+use Rattle.tiresias_core.specs.Exact.{IsTold, Refusal, of_query, of_syntax, of_table, of_answer, of_line, refusal_status, refusal_line, outcome_status, outcome_line, QueryCalls, TableCalls, AnswerCalls, LineCalls, Calls, IsAnswered}
+use Rattle.tiresias_core.specs.Replies.{status_of, text_of, fault_line, syntax_line, fault_status, accepted_line, unreadable_line, verdict_status}
 use Rattle.tiresias_core.specs.Results.{WroteAccepted, WroteBest}
 use Rattle.tiresias_core.specs.Verdicts.{objective_of}
 use Rattle.tiresias_core.specs.Runs.{Leaves, Wrote}
@@ -64,6 +67,7 @@ module _ (words : List (List ℕ)) (v : Visit) (before now : Option (List ℕ)) 
   words_reply : (told : Reply) → IsReply words v told → form_of words ≡ None → status_of told ≡ status.Words
   words_reply reply.Words cause none = refl
   words_reply (reply.Query why at) cause none = absurd (some_form (string_bytes at, cause.0, cause.1) none cause.2)
+  words_reply (reply.Syntax place) cause none = absurd (some_form (cause.0, cause.1, cause.2) none cause.3)
   words_reply (reply.Table why at) cause none = absurd (some_form (cause.2.name, cause.0, cause.2.command) none cause.2.form)
   words_reply (reply.Answered answer) cause none = absurd (some_form (cause.2.asks.name, cause.2.folder, cause.2.asks.command) none cause.2.asks.form)
   words_reply (reply.Answer why at) cause none = absurd (audit_form cause.0 cause.1 cause.2 cause.3 none)
@@ -160,13 +164,13 @@ module _ (words : List (List ℕ)) (v : Visit) (is : IsTold v) where
   query_stop_read name bytes query fault.Absent a there short good = not_both name bytes a.1 there
   query_stop_read name bytes query fault.ReadFailed a there short good = is.none_failed a
   query_stop_read name bytes query fault.TooLong a there short good = not_long name bytes a there short
-  query_stop_read name bytes query fault.NotBuilt a there short good = a.3 query (subst (λ (l : List ℕ). IsFirstText l query) (one_file name bytes a.0 there a.1) good)
+  query_stop_read name bytes query fault.NotBuilt a there short good = unbuilt_text a.0 query a.3 (subst (λ (l : List ℕ). IsFirstText l query) (one_file name bytes a.0 there a.1) good)
 
   query_call_read : (name bytes : List ℕ) (query : FirstQuery) (why : FileFault) → QueryCalls v name why → Holds v name bytes → length bytes ≤ MOST_FILE_BYTES → IsFirstText bytes query → ⊥
   query_call_read name bytes query fault.Absent a there short good = not_both name bytes a there
   query_call_read name bytes query fault.ReadFailed a there short good = absurd a
   query_call_read name bytes query fault.TooLong a there short good = not_long name bytes a there short
-  query_call_read name bytes query fault.NotBuilt a there short good = a.3 query (subst (λ (l : List ℕ). IsFirstText l query) (one_file name bytes a.0 there a.1) good)
+  query_call_read name bytes query fault.NotBuilt a there short good = unbuilt_text a.0 query a.3 (subst (λ (l : List ℕ). IsFirstText l query) (one_file name bytes a.0 there a.1) good)
 
   table_stop_read : (query : FirstQuery) (name bytes : List ℕ) (rows : Rows) (why : FileFault) → TableStops v query name why → Holds v name bytes → length bytes ≤ MOST_FILE_BYTES → IsFirstTable bytes query.columns rows → ⊥
   table_stop_read query name bytes rows fault.Absent a there short good = not_both name bytes a.1 there
@@ -206,6 +210,29 @@ module _ (words : List (List ℕ)) (v : Visit) (is : IsTold v) where
   calls_asks name folder folder' command query why form stops asks =
       let same : name ≡ asks.name = same_name name asks.name folder folder' command asks.command (sym form ∙ asks.form) in
       query_call_read asks.name asks.bytes query why (subst (λ (n : List ℕ). QueryCalls v n why) same stops) asks.held asks.short asks.spelled
+
+  -- a query's file that stops being a query is not asked
+  syntax_asks : (name folder folder' : List ℕ) (command : Command) (query : FirstQuery) (place : Place) → form_of words ≡ Some (name, folder, command) → SyntaxStops v name place → Asks words v folder' query → ⊥
+  syntax_asks name folder folder' command query place form stops asks =
+      let same : name ≡ asks.name = same_name name asks.name folder folder' command asks.command (sym form ∙ asks.form) in
+      let bytes : asks.bytes ≡ stops.0 = one_file asks.name asks.bytes stops.0 asks.held (subst (λ (n : List ℕ). Holds v n stops.0) same stops.1) in
+      stopped_text stops.0 place query stops.3 (subst (λ (l : List ℕ). IsFirstText l query) bytes asks.spelled)
+
+  -- it stops at one place, and is not refused otherwise
+  one_syntax : (name : List ℕ) (place other : Place) → SyntaxStops v name place → SyntaxStops v name other → place ≡ other
+  one_syntax name place other one two = one_stop two.0 place other (subst (λ (l : List ℕ). IsSyntaxStop l place) (one_file name one.0 two.0 one.1 two.1) one.3) two.3
+
+  syntax_calls : (name : List ℕ) (place : Place) (why : FileFault) → SyntaxStops v name place → QueryCalls v name why → ⊥
+  syntax_calls name place fault.Absent stops calls = not_both name stops.0 calls stops.1
+  syntax_calls name place fault.ReadFailed stops calls = absurd calls
+  syntax_calls name place fault.TooLong stops calls = not_long name stops.0 calls stops.1 stops.2
+  syntax_calls name place fault.NotBuilt stops calls = stopped_unbuilt calls.0 place (subst (λ (l : List ℕ). IsSyntaxStop l place) (one_file name stops.0 calls.0 stops.1 calls.1) stops.3) calls.3
+
+  syntax_stops : (name : List ℕ) (place : Place) (why : FileFault) → SyntaxStops v name place → QueryStops v name why → ⊥
+  syntax_stops name place fault.Absent stops calls = not_both name stops.0 calls.1 stops.1
+  syntax_stops name place fault.ReadFailed stops calls = is.none_failed calls
+  syntax_stops name place fault.TooLong stops calls = not_long name stops.0 calls stops.1 stops.2
+  syntax_stops name place fault.NotBuilt stops calls = stopped_unbuilt calls.0 place (subst (λ (l : List ℕ). IsSyntaxStop l place) (one_file name stops.0 calls.0 stops.1 calls.1) stops.3) calls.3
 
   -- the table's file of one query
   path_same : (folder folder' : List ℕ) (query query' : FirstQuery) → Asks words v folder query → Asks words v folder' query' → table_path folder query.table ≡ table_path folder' query'.table
@@ -308,6 +335,7 @@ module _ (words : List (List ℕ)) (v : Visit) (is : IsTold v) where
   -- the reply is the one that is called for
   pub reply_called : (told : Reply) → IsReply words v told → (why : Refusal) → Calls words v why → (status_of told ≡ refusal_status why) × (text_of told ≡ refusal_line why)
   reply_called reply.Words none (of_query why name) calls = absurd (none_some (name, calls.0, calls.1) none calls.2)
+  reply_called reply.Words none (of_syntax place) calls = absurd (none_some (calls.0, calls.1, calls.2) none calls.3)
   reply_called reply.Words none (of_table why name) calls = absurd (none_some (calls.2.name, calls.0, calls.2.command) none calls.2.form)
   reply_called reply.Words none (of_answer why name) calls = absurd (none_accepted calls.0 calls.1 none calls.2.accepted)
   reply_called reply.Words none (of_line line) calls = absurd (none_accepted calls.0 calls.1 none calls.3.accepted)
@@ -315,10 +343,23 @@ module _ (words : List (List ℕ)) (v : Visit) (is : IsTold v) where
       let same : string_bytes at ≡ name = same_name (string_bytes at) name cause.0 calls.0 cause.1 calls.1 (sym cause.2 ∙ calls.2) in
       let fault_is = query_fault name why other (subst (λ (n : List ℕ). QueryStops v n why) same cause.3) calls.3 in
       (ap (fault_status status.Query) fault_is, ap (λ (f : FileFault). fault_line f (string_bytes at)) fault_is ∙ ap (fault_line other) same)
+  reply_called (reply.Query why at) cause (of_syntax place) calls =
+      let same : string_bytes at ≡ calls.0 = same_name (string_bytes at) calls.0 cause.0 calls.1 cause.1 calls.2 (sym cause.2 ∙ calls.3) in
+      absurd (syntax_stops calls.0 place why calls.4 (subst (λ (n : List ℕ). QueryStops v n why) same cause.3))
   reply_called (reply.Query why at) cause (of_table other name) calls = absurd (stops_asks (string_bytes at) cause.0 calls.0 cause.1 calls.1 why cause.2 cause.3 calls.2)
   reply_called (reply.Query why at) cause (of_answer other name) calls = absurd (stops_asks (string_bytes at) cause.0 calls.2.accepted.folder cause.1 calls.0 why cause.2 cause.3 calls.2.accepted.asks)
   reply_called (reply.Query why at) cause (of_line line) calls = absurd (stops_asks (string_bytes at) cause.0 calls.3.accepted.folder cause.1 calls.0 why cause.2 cause.3 calls.3.accepted.asks)
+  reply_called (reply.Syntax place) cause (of_query other name) calls =
+      let same : cause.0 ≡ name = same_name cause.0 name cause.1 calls.0 cause.2 calls.1 (sym cause.3 ∙ calls.2) in
+      absurd (syntax_calls name place other (subst (λ (n : List ℕ). SyntaxStops v n place) same cause.4) calls.3)
+  reply_called (reply.Syntax place) cause (of_syntax other) calls =
+      let same : cause.0 ≡ calls.0 = same_name cause.0 calls.0 cause.1 calls.1 cause.2 calls.2 (sym cause.3 ∙ calls.3) in
+      (refl, ap syntax_line (one_syntax calls.0 place other (subst (λ (n : List ℕ). SyntaxStops v n place) same cause.4) calls.4))
+  reply_called (reply.Syntax place) cause (of_table other name) calls = absurd (syntax_asks cause.0 cause.1 calls.0 cause.2 calls.1 place cause.3 cause.4 calls.2)
+  reply_called (reply.Syntax place) cause (of_answer other name) calls = absurd (syntax_asks cause.0 cause.1 calls.2.accepted.folder cause.2 calls.0 place cause.3 cause.4 calls.2.accepted.asks)
+  reply_called (reply.Syntax place) cause (of_line line) calls = absurd (syntax_asks cause.0 cause.1 calls.3.accepted.folder cause.2 calls.0 place cause.3 cause.4 calls.3.accepted.asks)
   reply_called (reply.Table why at) cause (of_query other name) calls = absurd (calls_asks name calls.0 cause.0 calls.1 cause.1 other calls.2 calls.3 cause.2)
+  reply_called (reply.Table why at) cause (of_syntax place) calls = absurd (syntax_asks calls.0 calls.1 cause.0 calls.2 cause.1 place calls.3 calls.4 cause.2)
   reply_called (reply.Table why at) cause (of_table other name) calls =
       let path : string_bytes at ≡ name = cause.3 ∙ path_same cause.0 calls.0 cause.1 calls.1 cause.2 calls.2 ∙ sym calls.3 in
       let same = asked_query cause.0 calls.0 cause.1 calls.1 cause.2 calls.2 in
@@ -327,10 +368,12 @@ module _ (words : List (List ℕ)) (v : Visit) (is : IsTold v) where
   reply_called (reply.Table why at) cause (of_answer other name) calls = absurd (table_stops_accepted (string_bytes at) cause.0 cause.1 calls.0 calls.1 why cause.2 cause.3 cause.4 calls.2.accepted)
   reply_called (reply.Table why at) cause (of_line line) calls = absurd (table_stops_accepted (string_bytes at) cause.0 cause.1 calls.0 calls.1 why cause.2 cause.3 cause.4 calls.3.accepted)
   reply_called (reply.Answered answer) cause (of_query other name) calls = absurd (calls_asks name calls.0 cause.2.folder calls.1 cause.0 other calls.2 calls.3 cause.2.asks)
+  reply_called (reply.Answered answer) cause (of_syntax place) calls = absurd (syntax_asks calls.0 calls.1 cause.2.folder calls.2 cause.0 place calls.3 calls.4 cause.2.asks)
   reply_called (reply.Answered answer) cause (of_table other name) calls = absurd (table_calls_accepted name calls.0 calls.1 cause.0 cause.1 other calls.2 calls.3 calls.4 cause.2)
   reply_called (reply.Answered answer) cause (of_answer other name) calls = absurd (not_both_commands cause.0 calls.0 cause.1 calls.1 name cause.3 cause.2 cause.4 calls.2)
   reply_called (reply.Answered answer) cause (of_line line) calls = absurd (not_both_commands cause.0 calls.0 cause.1 calls.1 calls.2 cause.3 cause.2 cause.4 calls.3)
   reply_called (reply.Answer why at) cause (of_query other name) calls = absurd (calls_query_audit name calls.0 calls.1 cause.0 cause.1 cause.2 other calls.2 calls.3 cause.3)
+  reply_called (reply.Answer why at) cause (of_syntax place) calls = absurd (syntax_asks calls.0 calls.1 cause.3.accepted.folder calls.2 cause.0 place calls.3 calls.4 cause.3.accepted.asks)
   reply_called (reply.Answer why at) cause (of_table other name) calls = absurd (calls_table_audit name calls.0 calls.1 cause.0 cause.1 cause.2 other calls.2 calls.3 calls.4 cause.3)
   reply_called (reply.Answer why at) cause (of_answer other name) calls =
       let same : cause.2 ≡ name = one_name cause.0 calls.0 cause.1 calls.1 cause.2 name cause.3 calls.2 in
@@ -340,6 +383,7 @@ module _ (words : List (List ℕ)) (v : Visit) (is : IsTold v) where
       let same : cause.2 ≡ calls.2 = one_name cause.0 calls.0 cause.1 calls.1 cause.2 calls.2 cause.3 calls.3 in
       absurd (stops_bytes calls.2 calls.4.bytes why (subst (λ (n : List ℕ). FileStops v MOST_ANSWER_BYTES n why) same cause.4.1) calls.4.held calls.4.short)
   reply_called (reply.Unreadable at) cause (of_query other name) calls = absurd (calls_query_audit name calls.0 calls.1 cause.0 cause.1 cause.2 other calls.2 calls.3 cause.3)
+  reply_called (reply.Unreadable at) cause (of_syntax place) calls = absurd (syntax_asks calls.0 calls.1 cause.3.accepted.folder calls.2 cause.0 place calls.3 calls.4 cause.3.accepted.asks)
   reply_called (reply.Unreadable at) cause (of_table other name) calls = absurd (calls_table_audit name calls.0 calls.1 cause.0 cause.1 cause.2 other calls.2 calls.3 calls.4 cause.3)
   reply_called (reply.Unreadable at) cause (of_answer other name) calls =
       let same : cause.2 ≡ name = one_name cause.0 calls.0 cause.1 calls.1 cause.2 name cause.3 calls.2 in
@@ -348,6 +392,7 @@ module _ (words : List (List ℕ)) (v : Visit) (is : IsTold v) where
       let same : cause.2 ≡ calls.2 = one_name cause.0 calls.0 cause.1 calls.1 cause.2 calls.2 cause.3 calls.3 in
       (refl, ap unreadable_line (same_line calls.2 at line (subst (λ (n : List ℕ). IsUnreadable v n at) same cause.4) calls.4))
   reply_called (reply.Accepted objective) cause (of_query other name) calls = absurd (calls_query_audit name calls.0 calls.1 cause.0 cause.1 cause.2 other calls.2 calls.3 cause.3)
+  reply_called (reply.Accepted objective) cause (of_syntax place) calls = absurd (syntax_asks calls.0 calls.1 cause.3.accepted.folder calls.2 cause.0 place calls.3 calls.4 cause.3.accepted.asks)
   reply_called (reply.Accepted objective) cause (of_table other name) calls = absurd (calls_table_audit name calls.0 calls.1 cause.0 cause.1 cause.2 other calls.2 calls.3 calls.4 cause.3)
   reply_called (reply.Accepted objective) cause (of_answer other name) calls =
       let same : cause.2 ≡ name = one_name cause.0 calls.0 cause.1 calls.1 cause.2 name cause.3 calls.2 in
@@ -356,6 +401,7 @@ module _ (words : List (List ℕ)) (v : Visit) (is : IsTold v) where
       let same : cause.2 ≡ calls.2 = one_name cause.0 calls.0 cause.1 calls.1 cause.2 calls.2 cause.3 calls.3 in
       absurd (reads_none calls.2 calls.4.bytes cause.4.0 (subst (λ (n : List ℕ). Reads v n cause.4.0) same cause.4.1) calls.4.held calls.4.none)
   reply_called (reply.Rejected reason part node) cause (of_query other name) calls = absurd (calls_query_audit name calls.0 calls.1 cause.0 cause.1 cause.2 other calls.2 calls.3 cause.3)
+  reply_called (reply.Rejected reason part node) cause (of_syntax place) calls = absurd (syntax_asks calls.0 calls.1 cause.3.accepted.folder calls.2 cause.0 place calls.3 calls.4 cause.3.accepted.asks)
   reply_called (reply.Rejected reason part node) cause (of_table other name) calls = absurd (calls_table_audit name calls.0 calls.1 cause.0 cause.1 cause.2 other calls.2 calls.3 calls.4 cause.3)
   reply_called (reply.Rejected reason part node) cause (of_answer other name) calls =
       let same : cause.2 ≡ name = one_name cause.0 calls.0 cause.1 calls.1 cause.2 name cause.3 calls.2 in
@@ -374,6 +420,7 @@ module _ (words : List (List ℕ)) (v : Visit) (is : IsTold v) where
   pub reply_answered : (told : Reply) → IsReply words v told → (query : FirstQuery) (rows : Rows) (accepted : Accepted words v query rows) (budget : ℕ) → accepted.asks.command ≡ solve budget → IsAnswered (status_of told)
   reply_answered reply.Words none query rows accepted budget solves = absurd (none_accepted query rows none accepted)
   reply_answered (reply.Query why at) cause query rows accepted budget solves = absurd (stops_asks (string_bytes at) cause.0 accepted.folder cause.1 query why cause.2 cause.3 accepted.asks)
+  reply_answered (reply.Syntax place) cause query rows accepted budget solves = absurd (syntax_asks cause.0 cause.1 accepted.folder cause.2 query place cause.3 cause.4 accepted.asks)
   reply_answered (reply.Table why at) cause query rows accepted budget solves = absurd (table_stops_accepted (string_bytes at) cause.0 cause.1 query rows why cause.2 cause.3 cause.4 accepted)
   reply_answered (reply.Answered answer) cause query rows accepted budget solves = answered_verdict answer.verdict
   reply_answered (reply.Answer why at) cause query rows accepted budget solves = absurd (not_both_commands query cause.0 rows cause.1 cause.2 budget accepted solves cause.3)
@@ -404,6 +451,7 @@ module _ (words : List (List ℕ)) (v : Visit) (is : IsTold v) where
     pub reply_checked : (told : Reply) → IsReply words v told → (outcome : Outcome) → IsOutcome query rows answer outcome → (status_of told ≡ outcome_status outcome) × (text_of told ≡ outcome_line answer outcome)
     reply_checked reply.Words none outcome of = absurd (none_accepted query rows none audits.accepted)
     reply_checked (reply.Query why at) cause outcome of = absurd (stops_asks (string_bytes at) cause.0 audits.accepted.folder cause.1 query why cause.2 cause.3 audits.accepted.asks)
+    reply_checked (reply.Syntax place) cause outcome of = absurd (syntax_asks cause.0 cause.1 audits.accepted.folder cause.2 query place cause.3 cause.4 audits.accepted.asks)
     reply_checked (reply.Table why at) cause outcome of = absurd (table_stops_accepted (string_bytes at) cause.0 cause.1 query rows why cause.2 cause.3 cause.4 audits.accepted)
     reply_checked (reply.Answered other) cause outcome of = absurd (not_both_commands cause.0 query cause.1 rows name cause.3 cause.2 cause.4 audits)
     reply_checked (reply.Answer why at) cause outcome of =
@@ -424,6 +472,7 @@ module _ (words : List (List ℕ)) (v : Visit) (is : IsTold v) where
     pub reply_accepts : (told : Reply) → IsReply words v told → IsValid query rows answer → status_of told ≡ status.Done
     reply_accepts reply.Words none valid = absurd (none_accepted query rows none audits.accepted)
     reply_accepts (reply.Query why at) cause valid = absurd (stops_asks (string_bytes at) cause.0 audits.accepted.folder cause.1 query why cause.2 cause.3 audits.accepted.asks)
+    reply_accepts (reply.Syntax place) cause valid = absurd (syntax_asks cause.0 cause.1 audits.accepted.folder cause.2 query place cause.3 cause.4 audits.accepted.asks)
     reply_accepts (reply.Table why at) cause valid = absurd (table_stops_accepted (string_bytes at) cause.0 cause.1 query rows why cause.2 cause.3 cause.4 audits.accepted)
     reply_accepts (reply.Answered other) cause valid = absurd (not_both_commands cause.0 query cause.1 rows name cause.3 cause.2 cause.4 audits)
     reply_accepts (reply.Answer why at) cause valid =

@@ -4,7 +4,7 @@ use Rattle.std.specs.Prelude.{Some, None, Ok, Err, IfOk, IfSome, Result}
 use Rattle.std.proofs.lemmas.List.{take_all, length-take}
 use Rattle.outside_io.specs.Shelves.{Contents, Fetches}
 use Rattle.tiql_read.specs.declared.query.FirstQuery.{FirstQuery}
-use Rattle.tiql_read.specs.FirstTexts.{IsFirstText}
+use Rattle.tiresias_core.specs.FirstTrees.{IsFirstText}
 use Rattle.tiresias_core.specs.Words.{Command, form_of}
 use Rattle.tiresias_core.specs.Visits.{Visit, Holds}
 use Rattle.tiresias_core.specs.Causes.{FileStops, TableStops, Asks, Audits, IsAudit, IsReply}
@@ -48,6 +48,7 @@ asks_of words v name folder bytes command query form held short spelled = record
 audit_reply : (words : List (List ℕ)) (v : Visit) (query : FirstQuery) (rows : Rows) (name : List ℕ) → Audits words v query rows name → (told : Reply) → IsAudit v query rows name told → IsReply words v told
 audit_reply words v query rows name audits reply.Words is = absurd is
 audit_reply words v query rows name audits (reply.Query fault at) is = absurd is
+audit_reply words v query rows name audits (reply.Syntax place) is = absurd is
 audit_reply words v query rows name audits (reply.Table fault at) is = absurd is
 audit_reply words v query rows name audits (reply.Answered answer) is = absurd is
 audit_reply words v query rows name audits (reply.Answer fault at) is = (query, rows, name, audits, is)

@@ -4,3 +4,5 @@ pub mod Leaving
 pub mod Saying
 pub mod Calling
 pub mod Auditing
+pub mod FirstQueries
+pub mod FirstReading

@@ -1,7 +1,10 @@
 -- Why each reply comes.
 use Rattle.std.specs.Prelude.{◌≡◌, ◌≤◌, length, ℕ, List, Some, None, Ok, Err, string_bytes}
 use Rattle.tiql_read.specs.declared.query.FirstQuery.{FirstQuery}
-use Rattle.tiql_read.specs.FirstTexts.{IsFirstText}
+use Rattle.base_kit.specs.declared.place.Place.{Place}
+use Rattle.tiql_tree.specs.declared.tree.Tree.{Tree}
+use Rattle.tiql_tree.specs.Spelled.{Spelled, IsStop as IsSyntaxStop}
+use Rattle.tiresias_core.specs.FirstTrees.{IsFirstTree, IsFirstText}
 use Rattle.tables_csv.specs.Tables.{IsFirstTable}
 use Rattle.world_def.specs.First.{Rows}
 use Rattle.answer_text.specs.Answers.{AnswerText, IsStop, line_of}
@@ -31,12 +34,20 @@ abbrev pub StopsFetch : Visit → ℕ → List ℕ → Stop → Type 0
 StopsFetch v most name (stop.Fault fault) = FileStops v most name fault
 StopsFetch v most name stop.Memory = Unit {0}
 
--- the query's file is not to be had, or is no first text
+-- the bytes spell a tree, and it is that of no first text
+abbrev pub IsUnbuilt : List ℕ → Type 0
+IsUnbuilt bytes = (tree : Tree) × Spelled bytes tree × ((query : FirstQuery) → IsFirstTree tree query → ⊥)
+
+-- the query's file is not to be had, or spells a tree that is that of no first text
 abbrev pub QueryStops : Visit → List ℕ → FileFault → Type 0
 QueryStops v name fault.Absent = FileStops v MOST_FILE_BYTES name fault.Absent
 QueryStops v name fault.ReadFailed = FileStops v MOST_FILE_BYTES name fault.ReadFailed
 QueryStops v name fault.TooLong = FileStops v MOST_FILE_BYTES name fault.TooLong
-QueryStops v name fault.NotBuilt = (bytes : List ℕ) × Holds v name bytes × (length bytes ≤ MOST_FILE_BYTES) × ((query : FirstQuery) → IsFirstText bytes query → ⊥)
+QueryStops v name fault.NotBuilt = (bytes : List ℕ) × Holds v name bytes × (length bytes ≤ MOST_FILE_BYTES) × IsUnbuilt bytes
+
+-- the query's file spells no tree, and stops at this place
+abbrev pub SyntaxStops : Visit → List ℕ → Place → Type 0
+SyntaxStops v name place = (bytes : List ℕ) × Holds v name bytes × (length bytes ≤ MOST_FILE_BYTES) × IsSyntaxStop bytes place
 
 -- the table's file is not to be had, or is no first table with the query's columns
 abbrev pub TableStops : Visit → FirstQuery → List ℕ → FileFault → Type 0
@@ -79,6 +90,7 @@ KeepsStop before now stop.Memory = now ≡ before
 abbrev pub NoneFailed : ℕ → ℕ → Reply → Type 0
 NoneFailed before now reply.Words = now ≡ before
 NoneFailed before now (reply.Query fault name) = KeepsFaults before now fault
+NoneFailed before now (reply.Syntax place) = now ≡ before
 NoneFailed before now (reply.Table fault name) = KeepsFaults before now fault
 NoneFailed before now (reply.Answered answer) = now ≡ before
 NoneFailed before now (reply.Answer fault name) = KeepsFaults before now fault
@@ -105,6 +117,7 @@ pub record IsUnreadable (v : Visit) (name : List ℕ) (line : ℕ) : Type 0 wher
 abbrev pub IsAudit : Visit → FirstQuery → Rows → List ℕ → Reply → Type 0
 IsAudit v query rows name reply.Words = ⊥
 IsAudit v query rows name (reply.Query fault at) = ⊥
+IsAudit v query rows name (reply.Syntax place) = ⊥
 IsAudit v query rows name (reply.Table fault at) = ⊥
 IsAudit v query rows name (reply.Answered answer) = ⊥
 IsAudit v query rows name (reply.Answer fault at) = (string_bytes at ≡ name) × FileStops v MOST_ANSWER_BYTES name fault
@@ -125,6 +138,7 @@ IsAudited words v told = (query : FirstQuery) × (rows : Rows) × (name : List �
 abbrev pub IsReply : List (List ℕ) → Visit → Reply → Type 0
 IsReply words v reply.Words = form_of words ≡ None
 IsReply words v (reply.Query fault name) = (folder : List ℕ) × (command : Command) × (form_of words ≡ Some (string_bytes name, folder, command)) × QueryStops v (string_bytes name) fault
+IsReply words v (reply.Syntax place) = (name : List ℕ) × (folder : List ℕ) × (command : Command) × (form_of words ≡ Some (name, folder, command)) × SyntaxStops v name place
 IsReply words v (reply.Table fault name) = (folder : List ℕ) × (query : FirstQuery) × Asks words v folder query × (string_bytes name ≡ table_path folder query.table) × TableStops v query (string_bytes name) fault
 IsReply words v (reply.Answered answer) = (query : FirstQuery) × (rows : Rows) × (accepted : Accepted words v query rows) × (nodes : ℕ) × (accepted.asks.command ≡ solve nodes) × Answers query rows nodes answer
 IsReply words v (reply.Answer fault name) = IsAudited words v (reply.Answer fault name)

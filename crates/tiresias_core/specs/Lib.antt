@@ -1,5 +1,7 @@
+pub mod Asking
 pub mod Causes
 pub mod Exact
+pub mod FirstTrees
 pub mod Forms
 pub mod Pieces
 pub mod Replies

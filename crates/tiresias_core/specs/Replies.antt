@@ -1,6 +1,7 @@
 -- What is answered, its status and its text.
 use Rattle.std.specs.Prelude.{ℕ, ℤ, List, [], ◌∷◌, ◌++◌, Option, Some, None, codes, decimal, string_bytes}
 use Rattle.std.specs.Fmt.{signed_decimal}
+use Rattle.base_kit.specs.declared.place.Place.{Place}
 use Rattle.base_kit.specs.declared.status.Status.{Status}
 use Rattle.base_kit.specs.declared.status.Status.TheVariants as status
 use Rattle.answer_text.specs.declared.answer.Verdict.{Verdict}
@@ -29,6 +30,7 @@ fault_status kind fault.NotBuilt = kind
 abbrev pub status_of : Reply → Status
 status_of reply.Words = status.Words
 status_of (reply.Query fault name) = fault_status status.Query fault
+status_of (reply.Syntax place) = status.Query
 status_of (reply.Table fault name) = fault_status status.Tables fault
 status_of (reply.Answered answer) = verdict_status answer.verdict
 status_of (reply.Answer fault name) = fault_status status.Unreadable fault
@@ -42,6 +44,10 @@ fault_line fault.Absent name = codes "refused: absent " ++ name ++ 10 ∷ []
 fault_line fault.ReadFailed name = codes "refused: read failed " ++ name ++ 10 ∷ []
 fault_line fault.TooLong name = codes "refused: too long " ++ name ++ 10 ∷ []
 fault_line fault.NotBuilt name = codes "refused: not built " ++ name ++ 10 ∷ []
+
+-- the line of a text that is no query, with the place where it stops being one
+abbrev pub syntax_line : Place → List ℕ
+syntax_line place = codes "refused: syntax " ++ decimal place.line ++ codes ":" ++ decimal place.column ++ 10 ∷ []
 
 -- the words of a reason
 abbrev pub reason_words : Reject → List ℕ
@@ -74,6 +80,7 @@ unreadable_line line = codes "refused: unreadable answer " ++ decimal line ++ 10
 abbrev pub text_of : Reply → List ℕ
 text_of reply.Words = codes "refused: words\n"
 text_of (reply.Query fault name) = fault_line fault (string_bytes name)
+text_of (reply.Syntax place) = syntax_line place
 text_of (reply.Table fault name) = fault_line fault (string_bytes name)
 text_of (reply.Answered answer) = answer_bytes answer
 text_of (reply.Answer fault name) = fault_line fault (string_bytes name)

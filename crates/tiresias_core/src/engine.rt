@@ -14,11 +14,12 @@ ghost use Rattle.tiql_read.specs.declared.query.FirstQuery.{FirstQuery};
 ghost use Rattle.world_def.specs.First.{Rows, NoneMeets, root};
 ghost use Rattle.tiresias_core.specs.Causes.{Accepted, Audits, IsAudit, IsReply, NoneFailed, Reads};
 ghost use Rattle.tiresias_core.specs.Exact.{Calls, IsAnswered, IsTold, Refusal, outcome_line, outcome_status, refusal_line, refusal_status};
-ghost use Rattle.tiresias_core.specs.Results.{WroteAccepted, WroteBest, WroteNone, WroteNoQuery, WroteNoTable, WroteRejected, WroteUnfinished, WroteUnread, WroteUnreadable};
+ghost use Rattle.tiresias_core.specs.Results.{WroteAccepted, WroteBest, WroteNone, WroteNoQuery, WroteNoTable, WroteRejected, WroteSyntax, WroteUnfinished, WroteUnread, WroteUnreadable};
 ghost use Rattle.tiresias_core.specs.Runs.{Leaves, Tells};
 ghost use Rattle.tiresias_core.specs.Words.{form_of, solve};
 ghost use Rattle.tiresias_core.specs.Visits.{visit};
 
+use crate::ask::{Unasked, ask};
 use crate::fetch::{MOST_ANSWER_BYTES, MOST_FILE_BYTES, Stop, fetch_file};
 use crate::reply::{FileFault, Reply, objective_of, status_of, text_of};
 use crate::words::{Command, Form, form_of, table_path};
@@ -30,7 +31,7 @@ use first_listing::answer_first;
 use outside_io::{Shelf, Sink, SinkFault};
 use std::alloc::Global;
 use tables_csv::{FirstTableFault, read_first_table};
-use tiql_read::{FirstFault, FirstQuery, read_first};
+use tiql_read::FirstQuery;
 
 /// Does all that the program does: takes the words after its name, fetches from the shelf, and
 /// writes to the sink (docs/ANSWERS.md).
@@ -41,7 +42,7 @@ pub fn run<S: Shelf, K: Sink>(alloc: Global, words: &[String], shelf: &mut S, ou
     ensures rejected { result ≡ Status.Rejected → WroteRejected (map (λ word. string_bytes word) words.now) (visit S.held S.misses S.faults shelf.old shelf.new) (K.written out.old) (K.written out.new) }
     ensures unreadable { result ≡ Status.Unreadable → WroteUnreadable (map (λ word. string_bytes word) words.now) (visit S.held S.misses S.faults shelf.old shelf.new) (K.written out.old) (K.written out.new) }
     ensures words { result ≡ Status.Words → form_of (map (λ word. string_bytes word) words.now) ≡ None }
-    ensures query { result ≡ Status.Query → WroteNoQuery (map (λ word. string_bytes word) words.now) (visit S.held S.misses S.faults shelf.old shelf.new) (K.written out.old) (K.written out.new) }
+    ensures query { result ≡ Status.Query → WroteNoQuery (map (λ word. string_bytes word) words.now) (visit S.held S.misses S.faults shelf.old shelf.new) (K.written out.old) (K.written out.new) ⊎ WroteSyntax (map (λ word. string_bytes word) words.now) (visit S.held S.misses S.faults shelf.old shelf.new) (K.written out.old) (K.written out.new) }
     ensures tables { result ≡ Status.Tables → WroteNoTable (map (λ word. string_bytes word) words.now) (visit S.held S.misses S.faults shelf.old shelf.new) (K.written out.old) (K.written out.new) }
     ensures read { result ≡ Status.Read → WroteUnread (map (λ word. string_bytes word) words.now) (visit S.held S.misses S.faults shelf.old shelf.new) (K.written out.old) (K.written out.new) }
     ensures write { result ≡ Status.Write → Rose (K.faults out.old) (K.faults out.new) }
@@ -107,12 +108,13 @@ fn decide<S: Shelf>(alloc: Global, words: &[String], shelf: &mut S) -> Result<Re
         Err(Stop::Fault(fault)) => return Ok(Reply::Query(fault, String::from_str(alloc, name)?)),
         Err(Stop::Memory) => return Err(Memory),
     };
-    let query = match read_first(alloc, text.as_slice()) {
+    let query = match ask(alloc, text.as_slice()) {
         Ok(query) => query,
-        Err(FirstFault::NotBuilt) => {
+        Err(Unasked::Syntax(place)) => return Ok(Reply::Syntax(place)),
+        Err(Unasked::NotBuilt) => {
             return Ok(Reply::Query(FileFault::NotBuilt, String::from_str(alloc, name)?));
         }
-        Err(FirstFault::Memory) => return Err(Memory),
+        Err(Unasked::Memory) => return Err(Memory),
     };
     let path = table_path(alloc, folder, query.table.as_str())?;
     let bytes = match fetch_file(alloc, shelf, path.as_str(), MOST_FILE_BYTES) {

@@ -1,8 +1,10 @@
 //! The one top call: words, a shelf and a sink in, a status out, and the text that goes with it.
 #![tactic(auto)]
 
+mod ask;
 mod engine;
 mod fetch;
+mod first;
 mod reply;
 #[cfg(test)]
 mod tests;

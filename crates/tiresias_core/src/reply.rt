@@ -6,7 +6,7 @@ ghost use Rattle.tiresias_core.specs.Replies as spec;
 ghost use Rattle.tiresias_core.specs.Verdicts as verdicts;
 
 use answer_text::{Answer, Verdict, write_answer};
-use base_kit::{List, Memory, Status};
+use base_kit::{List, Memory, Place, Status};
 use cert_check::Reject;
 use std::alloc::Global;
 
@@ -28,6 +28,8 @@ pub(crate) enum FileFault {
 pub(crate) enum Reply {
     Words,
     Query(FileFault, String),
+    /// The query's text stops being one at this place.
+    Syntax(Place),
     Table(FileFault, String),
     Answered(Answer),
     /// The file of an answer that is to be checked.
@@ -47,6 +49,7 @@ pub(crate) fn status_of(reply: &Reply) -> Status
     match reply {
         Reply::Words => Status::Words,
         Reply::Query(fault, _) => fault_status(Status::Query, *fault),
+        Reply::Syntax(_) => Status::Query,
         Reply::Table(fault, _) => fault_status(Status::Tables, *fault),
         Reply::Answered(answer) => verdict_status(&answer.verdict),
         Reply::Answer(fault, _) => fault_status(Status::Unreadable, *fault),
@@ -85,6 +88,7 @@ pub(crate) fn text_of(alloc: Global, reply: &Reply) -> Result<List<u8>, Memory>
     match reply {
         Reply::Words => Ok(List::from_slice(alloc, b"refused: words\n")?),
         Reply::Query(fault, name) => fault_line(alloc, *fault, name.as_str()),
+        Reply::Syntax(place) => syntax_line(alloc, *place),
         Reply::Table(fault, name) => fault_line(alloc, *fault, name.as_str()),
         Reply::Answered(answer) => write_answer(alloc, answer),
         Reply::Answer(fault, name) => fault_line(alloc, *fault, name.as_str()),
@@ -105,6 +109,15 @@ fn fault_line(alloc: Global, fault: FileFault, name: &str) -> Result<List<u8>, M
         FileFault::NotBuilt => format!(in alloc; "refused: not built {name}\n")?,
     };
     Ok(List::from_slice(alloc, line.as_bytes())?)
+}
+
+/// The line of a text that is no query.
+fn syntax_line(alloc: Global, place: Place) -> Result<List<u8>, Memory>
+    ensures { IfOk result (λ text. text ≡ spec.syntax_line place) }
+{
+    let Place { line, column } = place;
+    let text = format!(in alloc; "refused: syntax {line}:{column}\n")?;
+    Ok(List::from_slice(alloc, text.as_bytes())?)
 }
 
 /// The line of bytes that are no answer's text.

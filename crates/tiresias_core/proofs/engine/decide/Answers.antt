@@ -1,8 +1,8 @@
 use Rattle.std.proofs.Common.{◌≡◌, ℕ, List, length, ap, sym, ◌∙◌, subst, arith}
 use Rattle.std.specs.Prelude.{Some, IfOk, IfSome, map, string_bytes}
 use Rattle.outside_io.specs.Shelves.{Contents}
-use Rattle.tiql_read.specs.FirstTexts.{IsFirstText}
-use Rattle.tiql_read.proofs.FirstReading.{first_text-query}
+use Rattle.tiresias_core.specs.FirstTrees.{IsFirstText}
+use Rattle.tiresias_core.proofs.FirstReading.{first_text-query}
 use Rattle.std.specs.List.{All}
 use Rattle.first_listing.specs.Parts.{Answers}
 use Rattle.tables_csv.specs.Tables.{IsFirstTable, HasNumbers}
@@ -37,14 +37,14 @@ returns-in-Err-Fault-fetch_file-clause-cause g c =
     let v : Visit = visit g.S.Shelf.held g.S.Shelf.misses g.S.Shelf.faults c.args.shelf.now c.fetch_file-2.new.shelf in
     let same : visit g.S.Shelf.held g.S.Shelf.misses g.S.Shelf.faults c.fetch_file.new.shelf c.fetch_file-2.new.shelf ≡ v =
     from_before _ _ _ _ _ _ _ _ c.in-Ok.ensures.held c.in-Ok.ensures.misses c.in-Ok.ensures.faults in
-    let spelled : IsFirstText c.in-Ok.text.items c.in-Ok-read_first.query = subst (λ (l : List ℕ). IsFirstText l c.in-Ok-read_first.query) c.as_slice.ensures.value c.in-Ok-read_first.ensures.query in
-    let path : string_bytes c.in_ok-path.path ≡ table_path c.in-Some.form.folder.now c.in-Ok-read_first.query.table =
+    let spelled : IsFirstText c.in-Ok.text.items c.in-Ok-ask.query = subst (λ (l : List ℕ). IsFirstText l c.in-Ok-ask.query) c.as_slice.ensures.value c.in-Ok-ask.ensures.query in
+    let path : string_bytes c.in_ok-path.path ≡ table_path c.in-Some.form.folder.now c.in-Ok-ask.query.table =
     c.in_ok-path.ensures ∙ ap (table_path c.in-Some.form.folder.now) c.as_str.ensures.text in (
       c.in-Some.form.folder.now,
-      c.in-Ok-read_first.query,
-      asks_of _ v c.in-Some.form.query.now c.in-Some.form.folder.now c.in-Ok.text.items (command c.in-Some.form.command) c.in-Ok-read_first.query (sym c.in-Some.ensures.form) c.in-Ok.ensures.found c.in-Ok.ensures.small spelled,
+      c.in-Ok-ask.query,
+      asks_of _ v c.in-Some.form.query.now c.in-Some.form.folder.now c.in-Ok.text.items (command c.in-Some.form.command) c.in-Ok-ask.query (sym c.in-Some.ensures.form) c.in-Ok.ensures.found c.in-Ok.ensures.small spelled,
       path,
-      subst (λ (why : FileFault). TableStops v c.in-Ok-read_first.query (string_bytes c.in_ok-path.path) why) (sym c.in-Err-Fault-fetch_file.fault-is) (table_stops v c.in-Ok-read_first.query (string_bytes c.in_ok-path.path) c.in-Err-Fault-fetch_file.fault
+      subst (λ (why : FileFault). TableStops v c.in-Ok-ask.query (string_bytes c.in_ok-path.path) why) (sym c.in-Err-Fault-fetch_file.fault-is) (table_stops v c.in-Ok-ask.query (string_bytes c.in_ok-path.path) c.in-Err-Fault-fetch_file.fault
           (subst (λ (n : List ℕ). FileStops v MOST_FILE_BYTES n c.in-Err-Fault-fetch_file.fault) c.as_str-2.ensures.value
           (subst (λ (w : Visit). FileStops w MOST_FILE_BYTES c.as_str-2.result.now c.in-Err-Fault-fetch_file.fault) same
           (subst (λ (s : Stop). StopsFetch (visit g.S.Shelf.held g.S.Shelf.misses g.S.Shelf.faults c.fetch_file.new.shelf c.fetch_file-2.new.shelf) MOST_FILE_BYTES c.as_str-2.result.now s) c.in-Err-Fault-fetch_file.field-0-is c.in-Err-Fault-fetch_file.ensures.stop)))),
@@ -55,12 +55,12 @@ returns-in-Err-NotBuilt-read_first_table-clause-cause g c =
     let v : Visit = visit g.S.Shelf.held g.S.Shelf.misses g.S.Shelf.faults c.args.shelf.now c.fetch_file-2.new.shelf in
     let same : visit g.S.Shelf.held g.S.Shelf.misses g.S.Shelf.faults c.fetch_file.new.shelf c.fetch_file-2.new.shelf ≡ v =
     from_before _ _ _ _ _ _ _ _ c.in-Ok.ensures.held c.in-Ok.ensures.misses c.in-Ok.ensures.faults in
-    let spelled : IsFirstText c.in-Ok.text.items c.in-Ok-read_first.query = subst (λ (l : List ℕ). IsFirstText l c.in-Ok-read_first.query) c.as_slice.ensures.value c.in-Ok-read_first.ensures.query in
-    let path : string_bytes c.in_ok-path.path ≡ table_path c.in-Some.form.folder.now c.in-Ok-read_first.query.table =
+    let spelled : IsFirstText c.in-Ok.text.items c.in-Ok-ask.query = subst (λ (l : List ℕ). IsFirstText l c.in-Ok-ask.query) c.as_slice.ensures.value c.in-Ok-ask.ensures.query in
+    let path : string_bytes c.in_ok-path.path ≡ table_path c.in-Some.form.folder.now c.in-Ok-ask.query.table =
     c.in_ok-path.ensures ∙ ap (table_path c.in-Some.form.folder.now) c.as_str.ensures.text in (
       c.in-Some.form.folder.now,
-      c.in-Ok-read_first.query,
-      asks_of _ v c.in-Some.form.query.now c.in-Some.form.folder.now c.in-Ok.text.items (command c.in-Some.form.command) c.in-Ok-read_first.query (sym c.in-Some.ensures.form) c.in-Ok.ensures.found c.in-Ok.ensures.small spelled,
+      c.in-Ok-ask.query,
+      asks_of _ v c.in-Some.form.query.now c.in-Some.form.folder.now c.in-Ok.text.items (command c.in-Some.form.command) c.in-Ok-ask.query (sym c.in-Some.ensures.form) c.in-Ok.ensures.found c.in-Ok.ensures.small spelled,
       path,
       (
         c.in-Ok-fetch_file.bytes.items,
@@ -74,12 +74,12 @@ returns-in-Err-NotBuilt-read_first_table-clause-cause g c =
 
 pub answer_first-requires-clause-table : goal.answer_first-requires-clause-table
 answer_first-requires-clause-table g c =
-    subst (λ (l : Rows). All (HasNumbers (length c.in-Ok-read_first.query.columns)) l) (sym c.as_slice-in-Solve.ensures)
+    subst (λ (l : Rows). All (HasNumbers (length c.in-Ok-ask.query.columns)) l) (sym c.as_slice-in-Solve.ensures)
     (subst (λ (l : List (List ℕ)). All (HasNumbers (length l)) c.in-Ok-read_first_table.rows) c.as_slice-3.ensures
     (first_table-numbers c.as_slice-2.result.now c.as_slice-3.result.now c.in-Ok-read_first_table.rows c.in-Ok-read_first_table.ensures.table))
 
 pub answer_first-requires-clause-query : goal.answer_first-requires-clause-query
-answer_first-requires-clause-query g c = first_text-query _ _ c.in-Ok-read_first.ensures.query
+answer_first-requires-clause-query g c = first_text-query _ _ c.in-Ok-ask.ensures.query
 
 pub answer_first-requires-clause-few : goal.answer_first-requires-clause-few
 answer_first-requires-clause-few g c = let rows = c.as_slice-in-Solve.ensures in let few = c.in-Ok-read_first_table.ensures.table.few in omega (arith, ap length rows)
@@ -89,17 +89,17 @@ returns-in-Solve-clause-cause g c =
     let v : Visit = visit g.S.Shelf.held g.S.Shelf.misses g.S.Shelf.faults c.args.shelf.now c.fetch_file-2.new.shelf in
     let same : visit g.S.Shelf.held g.S.Shelf.misses g.S.Shelf.faults c.fetch_file.new.shelf c.fetch_file-2.new.shelf ≡ v =
     from_before _ _ _ _ _ _ _ _ c.in-Ok.ensures.held c.in-Ok.ensures.misses c.in-Ok.ensures.faults in
-    let spelled : IsFirstText c.in-Ok.text.items c.in-Ok-read_first.query = subst (λ (l : List ℕ). IsFirstText l c.in-Ok-read_first.query) c.as_slice.ensures.value c.in-Ok-read_first.ensures.query in
-    let path : string_bytes c.in_ok-path.path ≡ table_path c.in-Some.form.folder.now c.in-Ok-read_first.query.table =
+    let spelled : IsFirstText c.in-Ok.text.items c.in-Ok-ask.query = subst (λ (l : List ℕ). IsFirstText l c.in-Ok-ask.query) c.as_slice.ensures.value c.in-Ok-ask.ensures.query in
+    let path : string_bytes c.in_ok-path.path ≡ table_path c.in-Some.form.folder.now c.in-Ok-ask.query.table =
     c.in_ok-path.ensures ∙ ap (table_path c.in-Some.form.folder.now) c.as_str.ensures.text in
-    let table : IsFirstTable c.in-Ok-fetch_file.bytes.items c.in-Ok-read_first.query.columns c.in-Ok-read_first_table.rows =
-    subst (λ (l : List ℕ). IsFirstTable l c.in-Ok-read_first.query.columns c.in-Ok-read_first_table.rows) c.as_slice-2.ensures.value
+    let table : IsFirstTable c.in-Ok-fetch_file.bytes.items c.in-Ok-ask.query.columns c.in-Ok-read_first_table.rows =
+    subst (λ (l : List ℕ). IsFirstTable l c.in-Ok-ask.query.columns c.in-Ok-read_first_table.rows) c.as_slice-2.ensures.value
     (subst (λ (l : List (List ℕ)). IsFirstTable c.as_slice-2.result.now l c.in-Ok-read_first_table.rows) c.as_slice-3.ensures c.in-Ok-read_first_table.ensures.table) in (
-      c.in-Ok-read_first.query,
+      c.in-Ok-ask.query,
       c.in-Ok-read_first_table.rows,
       record {
         folder = c.in-Some.form.folder.now;
-        asks = asks_of _ v c.in-Some.form.query.now c.in-Some.form.folder.now c.in-Ok.text.items (command c.in-Some.form.command) c.in-Ok-read_first.query (sym c.in-Some.ensures.form) c.in-Ok.ensures.found c.in-Ok.ensures.small spelled;
+        asks = asks_of _ v c.in-Some.form.query.now c.in-Some.form.folder.now c.in-Ok.text.items (command c.in-Some.form.command) c.in-Ok-ask.query (sym c.in-Some.ensures.form) c.in-Ok.ensures.found c.in-Ok.ensures.small spelled;
         bytes = c.in-Ok-fetch_file.bytes.items;
         held = subst (λ (n : List ℕ). Holds v n c.in-Ok-fetch_file.bytes.items) path (subst (λ (n : List ℕ). Holds v n c.in-Ok-fetch_file.bytes.items) c.as_str-2.ensures.value
             (subst (λ (w : Visit). Holds w c.as_str-2.result.now c.in-Ok-fetch_file.bytes.items) same c.in-Ok-fetch_file.ensures.found));
@@ -108,11 +108,11 @@ returns-in-Solve-clause-cause g c =
       },
       c.in-Solve.nodes,
       ap command c.in-Solve.is,
-      subst (λ (l : Rows). Answers c.in-Ok-read_first.query l c.in-Solve.nodes c.in_ok-answer-in-Solve.answer) c.as_slice-in-Solve.ensures c.in_ok-answer-in-Solve.ensures,
+      subst (λ (l : Rows). Answers c.in-Ok-ask.query l c.in-Solve.nodes c.in_ok-answer-in-Solve.answer) c.as_slice-in-Solve.ensures c.in_ok-answer-in-Solve.ensures,
     )
 
 pub audit-requires-clause-query : goal.audit-requires-clause-query
-audit-requires-clause-query g c = first_text-query _ _ c.in-Ok-read_first.ensures.query
+audit-requires-clause-query g c = first_text-query _ _ c.in-Ok-ask.ensures.query
 
 pub audit-requires-clause-table : goal.audit-requires-clause-table
 audit-requires-clause-table g c =
@@ -124,19 +124,19 @@ returns-clause-cause g c =
     let v : Visit = visit g.S.Shelf.held g.S.Shelf.misses g.S.Shelf.faults c.args.shelf.now c.audit.new.shelf in
     let same : visit g.S.Shelf.held g.S.Shelf.misses g.S.Shelf.faults c.fetch_file-2.new.shelf c.audit.new.shelf ≡ v =
     from_before _ _ _ _ _ _ _ _ (c.in-Ok-fetch_file.ensures.held ∙ c.in-Ok.ensures.held) (c.in-Ok-fetch_file.ensures.misses ∙ c.in-Ok.ensures.misses) (c.in-Ok-fetch_file.ensures.faults ∙ c.in-Ok.ensures.faults) in
-    let spelled : IsFirstText c.in-Ok.text.items c.in-Ok-read_first.query = subst (λ (l : List ℕ). IsFirstText l c.in-Ok-read_first.query) c.as_slice.ensures.value c.in-Ok-read_first.ensures.query in
-    let path : string_bytes c.in_ok-path.path ≡ table_path c.in-Some.form.folder.now c.in-Ok-read_first.query.table =
+    let spelled : IsFirstText c.in-Ok.text.items c.in-Ok-ask.query = subst (λ (l : List ℕ). IsFirstText l c.in-Ok-ask.query) c.as_slice.ensures.value c.in-Ok-ask.ensures.query in
+    let path : string_bytes c.in_ok-path.path ≡ table_path c.in-Some.form.folder.now c.in-Ok-ask.query.table =
     c.in_ok-path.ensures ∙ ap (table_path c.in-Some.form.folder.now) c.as_str.ensures.text in
-    let table : IsFirstTable c.in-Ok-fetch_file.bytes.items c.in-Ok-read_first.query.columns c.in-Ok-read_first_table.rows =
-    subst (λ (l : List ℕ). IsFirstTable l c.in-Ok-read_first.query.columns c.in-Ok-read_first_table.rows) c.as_slice-2.ensures.value
+    let table : IsFirstTable c.in-Ok-fetch_file.bytes.items c.in-Ok-ask.query.columns c.in-Ok-read_first_table.rows =
+    subst (λ (l : List ℕ). IsFirstTable l c.in-Ok-ask.query.columns c.in-Ok-read_first_table.rows) c.as_slice-2.ensures.value
     (subst (λ (l : List (List ℕ)). IsFirstTable c.as_slice-2.result.now l c.in-Ok-read_first_table.rows) c.as_slice-3.ensures c.in-Ok-read_first_table.ensures.table) in
     let there : Holds v (string_bytes c.in_ok-path.path) c.in-Ok-fetch_file.bytes.items =
     subst (λ (n : List ℕ). Holds v n c.in-Ok-fetch_file.bytes.items) c.as_str-2.ensures.value (subst (λ (h : Contents). IfSome h (λ held. held c.as_str-2.result.now ≡ Some c.in-Ok-fetch_file.bytes.items)) c.in-Ok.ensures.held c.in-Ok-fetch_file.ensures.found) in
-    audited (map (λ word. string_bytes word) c.args.words.now) v c.in-Ok-read_first.query c.in-Ok-read_first_table.rows c.in-Check.answer.now
+    audited (map (λ word. string_bytes word) c.args.words.now) v c.in-Ok-ask.query c.in-Ok-read_first_table.rows c.in-Check.answer.now
     (record {
       accepted = record {
         folder = c.in-Some.form.folder.now;
-        asks = asks_of _ v c.in-Some.form.query.now c.in-Some.form.folder.now c.in-Ok.text.items (command c.in-Some.form.command) c.in-Ok-read_first.query (sym c.in-Some.ensures.form) c.in-Ok.ensures.found c.in-Ok.ensures.small spelled;
+        asks = asks_of _ v c.in-Some.form.query.now c.in-Some.form.folder.now c.in-Ok.text.items (command c.in-Some.form.command) c.in-Ok-ask.query (sym c.in-Some.ensures.form) c.in-Ok.ensures.found c.in-Ok.ensures.small spelled;
         bytes = c.in-Ok-fetch_file.bytes.items;
         held = subst (λ (n : List ℕ). Holds v n c.in-Ok-fetch_file.bytes.items) path there;
         short = c.in-Ok-fetch_file.ensures.small;
@@ -144,7 +144,7 @@ returns-clause-cause g c =
       };
       checks = ap command c.in-Check.is;
     })
-    c.audit.result (subst (λ (w : Visit). IfOk c.audit.result (IsAudit w c.in-Ok-read_first.query c.in-Ok-read_first_table.rows c.in-Check.answer.now)) same c.audit.ensures.cause)
+    c.audit.result (subst (λ (w : Visit). IfOk c.audit.result (IsAudit w c.in-Ok-ask.query c.in-Ok-read_first_table.rows c.in-Check.answer.now)) same c.audit.ensures.cause)
 
 pub returns-in-Err-Fault-fetch_file-clause-kept : goal.returns-in-Err-Fault-fetch_file-clause-kept
 returns-in-Err-Fault-fetch_file-clause-kept g c =
