@@ -9,10 +9,11 @@ use Rattle.answer_text.specs.declared.answer.Verdict.{Verdict}
 use Rattle.answer_text.specs.declared.answer.Verdict.TheVariants as verdict
 use Rattle.tiql_read.specs.declared.query.FirstQuery.{FirstQuery}
 use Rattle.base_kit.specs.declared.place.Place.{Place}
+use Rattle.tiql_check.specs.declared.fault.SoundFault.{SoundFault}
 use Rattle.tiql_tree.specs.Spelled.{IsStop as IsSyntaxStop}
 use Rattle.tiql_read.proofs.Single.{one_stop}
 use Rattle.tiresias_core.specs.FirstTrees.{IsFirstText}
-use Rattle.tiresias_core.proofs.FirstReading.{first_text-one, first_text-query, unbuilt_text, stopped_text, stopped_unbuilt}
+use Rattle.tiresias_core.proofs.FirstReading.{first_text-one, first_text-query, unbuilt_text, stopped_text, stopped_unbuilt, stopped_unsound, unsound_text, unsound_unbuilt, one_unsound}
 use Rattle.answer_text.specs.Answers.{AnswerText, IsStop, line_of}
 use Rattle.answer_text.specs.declared.answer.Answer.{Answer}
 use Rattle.answer_text.proofs.AnswerTexts.{one_answer}
@@ -27,9 +28,9 @@ use Rattle.branch_tree.specs.Listing.{points}
 use Rattle.branch_tree.proofs.Counting.{worked_below}
 use Rattle.tiresias_core.specs.Words.{Command, Form, solve, check, form_of, table_path}
 use Rattle.tiresias_core.specs.Visits.{Visit, Holds, IsLong}
-use Rattle.tiresias_core.specs.Causes.{IsReply, IsUnbuilt, Asks, Accepted, FileStops, QueryStops, SyntaxStops, TableStops, Audits, Reads, IsUnreadable}
-use Rattle.tiresias_core.specs.Exact.{IsTold, Refusal, of_query, of_syntax, of_table, of_answer, of_line, refusal_status, refusal_line, outcome_status, outcome_line, QueryCalls, TableCalls, AnswerCalls, LineCalls, Calls, IsAnswered}
-use Rattle.tiresias_core.specs.Replies.{status_of, text_of, fault_line, syntax_line, fault_status, accepted_line, unreadable_line, verdict_status}
+use Rattle.tiresias_core.specs.Causes.{IsReply, IsUnsound, Asks, Accepted, FileStops, QueryStops, SoundStops, SyntaxStops, TableStops, Audits, Reads, IsUnreadable}
+use Rattle.tiresias_core.specs.Exact.{IsTold, Refusal, of_query, of_syntax, of_rule, of_table, of_answer, of_line, refusal_status, refusal_line, outcome_status, outcome_line, QueryCalls, TableCalls, AnswerCalls, LineCalls, Calls, IsAnswered}
+use Rattle.tiresias_core.specs.Replies.{status_of, text_of, fault_line, syntax_line, unsound_line, fault_status, accepted_line, unreadable_line, verdict_status}
 use Rattle.tiresias_core.specs.Results.{WroteAccepted, WroteBest}
 use Rattle.tiresias_core.specs.Verdicts.{objective_of}
 use Rattle.tiresias_core.specs.Runs.{Leaves, Wrote}
@@ -68,6 +69,7 @@ module _ (words : List (List ℕ)) (v : Visit) (before now : Option (List ℕ)) 
   words_reply reply.Words cause none = refl
   words_reply (reply.Query why at) cause none = absurd (some_form (string_bytes at, cause.0, cause.1) none cause.2)
   words_reply (reply.Syntax place) cause none = absurd (some_form (cause.0, cause.1, cause.2) none cause.3)
+  words_reply (reply.Unsound fault) cause none = absurd (some_form (cause.0, cause.1, cause.2) none cause.3)
   words_reply (reply.Table why at) cause none = absurd (some_form (cause.2.name, cause.0, cause.2.command) none cause.2.form)
   words_reply (reply.Answered answer) cause none = absurd (some_form (cause.2.asks.name, cause.2.folder, cause.2.asks.command) none cause.2.asks.form)
   words_reply (reply.Answer why at) cause none = absurd (audit_form cause.0 cause.1 cause.2 cause.3 none)
@@ -234,6 +236,32 @@ module _ (words : List (List ℕ)) (v : Visit) (is : IsTold v) where
   syntax_stops name place fault.TooLong stops calls = not_long name stops.0 calls stops.1 stops.2
   syntax_stops name place fault.NotBuilt stops calls = stopped_unbuilt calls.0 place (subst (λ (l : List ℕ). IsSyntaxStop l place) (one_file name stops.0 calls.0 stops.1 calls.1) stops.3) calls.3
 
+  -- a query's file that is not sound is not asked
+  rule_asks : (name folder folder' : List ℕ) (command : Command) (query : FirstQuery) (rule : SoundFault) → form_of words ≡ Some (name, folder, command) → SoundStops v name rule → Asks words v folder' query → ⊥
+  rule_asks name folder folder' command query rule form stops asks =
+      let same : name ≡ asks.name = same_name name asks.name folder folder' command asks.command (sym form ∙ asks.form) in
+      let bytes : asks.bytes ≡ stops.0 = one_file asks.name asks.bytes stops.0 asks.held (subst (λ (n : List ℕ). Holds v n stops.0) same stops.1) in
+      unsound_text stops.0 rule query stops.3 (subst (λ (l : List ℕ). IsFirstText l query) bytes asks.spelled)
+
+  -- it breaks one rule first, and is not refused otherwise
+  one_rule : (name : List ℕ) (one other : SoundFault) → SoundStops v name one → SoundStops v name other → one ≡ other
+  one_rule name one other a b = one_unsound b.0 one other (subst (λ (l : List ℕ). IsUnsound l one) (one_file name a.0 b.0 a.1 b.1) a.3) b.3
+
+  rule_syntax : (name : List ℕ) (rule : SoundFault) (place : Place) → SoundStops v name rule → SyntaxStops v name place → ⊥
+  rule_syntax name rule place a b = stopped_unsound a.0 place rule (subst (λ (l : List ℕ). IsSyntaxStop l place) (one_file name b.0 a.0 b.1 a.1) b.3) a.3
+
+  rule_calls : (name : List ℕ) (rule : SoundFault) (why : FileFault) → SoundStops v name rule → QueryCalls v name why → ⊥
+  rule_calls name rule fault.Absent stops calls = not_both name stops.0 calls stops.1
+  rule_calls name rule fault.ReadFailed stops calls = absurd calls
+  rule_calls name rule fault.TooLong stops calls = not_long name stops.0 calls stops.1 stops.2
+  rule_calls name rule fault.NotBuilt stops calls = unsound_unbuilt calls.0 rule (subst (λ (l : List ℕ). IsUnsound l rule) (one_file name stops.0 calls.0 stops.1 calls.1) stops.3) calls.3
+
+  rule_stops : (name : List ℕ) (rule : SoundFault) (why : FileFault) → SoundStops v name rule → QueryStops v name why → ⊥
+  rule_stops name rule fault.Absent stops calls = not_both name stops.0 calls.1 stops.1
+  rule_stops name rule fault.ReadFailed stops calls = is.none_failed calls
+  rule_stops name rule fault.TooLong stops calls = not_long name stops.0 calls stops.1 stops.2
+  rule_stops name rule fault.NotBuilt stops calls = unsound_unbuilt calls.0 rule (subst (λ (l : List ℕ). IsUnsound l rule) (one_file name stops.0 calls.0 stops.1 calls.1) stops.3) calls.3
+
   -- the table's file of one query
   path_same : (folder folder' : List ℕ) (query query' : FirstQuery) → Asks words v folder query → Asks words v folder' query' → table_path folder query.table ≡ table_path folder' query'.table
   path_same folder folder' query query' one other =
@@ -336,6 +364,7 @@ module _ (words : List (List ℕ)) (v : Visit) (is : IsTold v) where
   pub reply_called : (told : Reply) → IsReply words v told → (why : Refusal) → Calls words v why → (status_of told ≡ refusal_status why) × (text_of told ≡ refusal_line why)
   reply_called reply.Words none (of_query why name) calls = absurd (none_some (name, calls.0, calls.1) none calls.2)
   reply_called reply.Words none (of_syntax place) calls = absurd (none_some (calls.0, calls.1, calls.2) none calls.3)
+  reply_called reply.Words none (of_rule rule) calls = absurd (none_some (calls.0, calls.1, calls.2) none calls.3)
   reply_called reply.Words none (of_table why name) calls = absurd (none_some (calls.2.name, calls.0, calls.2.command) none calls.2.form)
   reply_called reply.Words none (of_answer why name) calls = absurd (none_accepted calls.0 calls.1 none calls.2.accepted)
   reply_called reply.Words none (of_line line) calls = absurd (none_accepted calls.0 calls.1 none calls.3.accepted)
@@ -346,6 +375,9 @@ module _ (words : List (List ℕ)) (v : Visit) (is : IsTold v) where
   reply_called (reply.Query why at) cause (of_syntax place) calls =
       let same : string_bytes at ≡ calls.0 = same_name (string_bytes at) calls.0 cause.0 calls.1 cause.1 calls.2 (sym cause.2 ∙ calls.3) in
       absurd (syntax_stops calls.0 place why calls.4 (subst (λ (n : List ℕ). QueryStops v n why) same cause.3))
+  reply_called (reply.Query why at) cause (of_rule rule) calls =
+      let same : string_bytes at ≡ calls.0 = same_name (string_bytes at) calls.0 cause.0 calls.1 cause.1 calls.2 (sym cause.2 ∙ calls.3) in
+      absurd (rule_stops calls.0 rule why calls.4 (subst (λ (n : List ℕ). QueryStops v n why) same cause.3))
   reply_called (reply.Query why at) cause (of_table other name) calls = absurd (stops_asks (string_bytes at) cause.0 calls.0 cause.1 calls.1 why cause.2 cause.3 calls.2)
   reply_called (reply.Query why at) cause (of_answer other name) calls = absurd (stops_asks (string_bytes at) cause.0 calls.2.accepted.folder cause.1 calls.0 why cause.2 cause.3 calls.2.accepted.asks)
   reply_called (reply.Query why at) cause (of_line line) calls = absurd (stops_asks (string_bytes at) cause.0 calls.3.accepted.folder cause.1 calls.0 why cause.2 cause.3 calls.3.accepted.asks)
@@ -355,11 +387,27 @@ module _ (words : List (List ℕ)) (v : Visit) (is : IsTold v) where
   reply_called (reply.Syntax place) cause (of_syntax other) calls =
       let same : cause.0 ≡ calls.0 = same_name cause.0 calls.0 cause.1 calls.1 cause.2 calls.2 (sym cause.3 ∙ calls.3) in
       (refl, ap syntax_line (one_syntax calls.0 place other (subst (λ (n : List ℕ). SyntaxStops v n place) same cause.4) calls.4))
+  reply_called (reply.Syntax place) cause (of_rule rule) calls =
+      let same : cause.0 ≡ calls.0 = same_name cause.0 calls.0 cause.1 calls.1 cause.2 calls.2 (sym cause.3 ∙ calls.3) in
+      absurd (rule_syntax calls.0 rule place calls.4 (subst (λ (n : List ℕ). SyntaxStops v n place) same cause.4))
   reply_called (reply.Syntax place) cause (of_table other name) calls = absurd (syntax_asks cause.0 cause.1 calls.0 cause.2 calls.1 place cause.3 cause.4 calls.2)
   reply_called (reply.Syntax place) cause (of_answer other name) calls = absurd (syntax_asks cause.0 cause.1 calls.2.accepted.folder cause.2 calls.0 place cause.3 cause.4 calls.2.accepted.asks)
   reply_called (reply.Syntax place) cause (of_line line) calls = absurd (syntax_asks cause.0 cause.1 calls.3.accepted.folder cause.2 calls.0 place cause.3 cause.4 calls.3.accepted.asks)
+  reply_called (reply.Unsound rule) cause (of_query other name) calls =
+      let same : cause.0 ≡ name = same_name cause.0 name cause.1 calls.0 cause.2 calls.1 (sym cause.3 ∙ calls.2) in
+      absurd (rule_calls name rule other (subst (λ (n : List ℕ). SoundStops v n rule) same cause.4) calls.3)
+  reply_called (reply.Unsound rule) cause (of_syntax place) calls =
+      let same : cause.0 ≡ calls.0 = same_name cause.0 calls.0 cause.1 calls.1 cause.2 calls.2 (sym cause.3 ∙ calls.3) in
+      absurd (rule_syntax calls.0 rule place (subst (λ (n : List ℕ). SoundStops v n rule) same cause.4) calls.4)
+  reply_called (reply.Unsound rule) cause (of_rule other) calls =
+      let same : cause.0 ≡ calls.0 = same_name cause.0 calls.0 cause.1 calls.1 cause.2 calls.2 (sym cause.3 ∙ calls.3) in
+      (refl, ap unsound_line (one_rule calls.0 rule other (subst (λ (n : List ℕ). SoundStops v n rule) same cause.4) calls.4))
+  reply_called (reply.Unsound rule) cause (of_table other name) calls = absurd (rule_asks cause.0 cause.1 calls.0 cause.2 calls.1 rule cause.3 cause.4 calls.2)
+  reply_called (reply.Unsound rule) cause (of_answer other name) calls = absurd (rule_asks cause.0 cause.1 calls.2.accepted.folder cause.2 calls.0 rule cause.3 cause.4 calls.2.accepted.asks)
+  reply_called (reply.Unsound rule) cause (of_line line) calls = absurd (rule_asks cause.0 cause.1 calls.3.accepted.folder cause.2 calls.0 rule cause.3 cause.4 calls.3.accepted.asks)
   reply_called (reply.Table why at) cause (of_query other name) calls = absurd (calls_asks name calls.0 cause.0 calls.1 cause.1 other calls.2 calls.3 cause.2)
   reply_called (reply.Table why at) cause (of_syntax place) calls = absurd (syntax_asks calls.0 calls.1 cause.0 calls.2 cause.1 place calls.3 calls.4 cause.2)
+  reply_called (reply.Table why at) cause (of_rule rule) calls = absurd (rule_asks calls.0 calls.1 cause.0 calls.2 cause.1 rule calls.3 calls.4 cause.2)
   reply_called (reply.Table why at) cause (of_table other name) calls =
       let path : string_bytes at ≡ name = cause.3 ∙ path_same cause.0 calls.0 cause.1 calls.1 cause.2 calls.2 ∙ sym calls.3 in
       let same = asked_query cause.0 calls.0 cause.1 calls.1 cause.2 calls.2 in
@@ -369,11 +417,13 @@ module _ (words : List (List ℕ)) (v : Visit) (is : IsTold v) where
   reply_called (reply.Table why at) cause (of_line line) calls = absurd (table_stops_accepted (string_bytes at) cause.0 cause.1 calls.0 calls.1 why cause.2 cause.3 cause.4 calls.3.accepted)
   reply_called (reply.Answered answer) cause (of_query other name) calls = absurd (calls_asks name calls.0 cause.2.folder calls.1 cause.0 other calls.2 calls.3 cause.2.asks)
   reply_called (reply.Answered answer) cause (of_syntax place) calls = absurd (syntax_asks calls.0 calls.1 cause.2.folder calls.2 cause.0 place calls.3 calls.4 cause.2.asks)
+  reply_called (reply.Answered answer) cause (of_rule rule) calls = absurd (rule_asks calls.0 calls.1 cause.2.folder calls.2 cause.0 rule calls.3 calls.4 cause.2.asks)
   reply_called (reply.Answered answer) cause (of_table other name) calls = absurd (table_calls_accepted name calls.0 calls.1 cause.0 cause.1 other calls.2 calls.3 calls.4 cause.2)
   reply_called (reply.Answered answer) cause (of_answer other name) calls = absurd (not_both_commands cause.0 calls.0 cause.1 calls.1 name cause.3 cause.2 cause.4 calls.2)
   reply_called (reply.Answered answer) cause (of_line line) calls = absurd (not_both_commands cause.0 calls.0 cause.1 calls.1 calls.2 cause.3 cause.2 cause.4 calls.3)
   reply_called (reply.Answer why at) cause (of_query other name) calls = absurd (calls_query_audit name calls.0 calls.1 cause.0 cause.1 cause.2 other calls.2 calls.3 cause.3)
   reply_called (reply.Answer why at) cause (of_syntax place) calls = absurd (syntax_asks calls.0 calls.1 cause.3.accepted.folder calls.2 cause.0 place calls.3 calls.4 cause.3.accepted.asks)
+  reply_called (reply.Answer why at) cause (of_rule rule) calls = absurd (rule_asks calls.0 calls.1 cause.3.accepted.folder calls.2 cause.0 rule calls.3 calls.4 cause.3.accepted.asks)
   reply_called (reply.Answer why at) cause (of_table other name) calls = absurd (calls_table_audit name calls.0 calls.1 cause.0 cause.1 cause.2 other calls.2 calls.3 calls.4 cause.3)
   reply_called (reply.Answer why at) cause (of_answer other name) calls =
       let same : cause.2 ≡ name = one_name cause.0 calls.0 cause.1 calls.1 cause.2 name cause.3 calls.2 in
@@ -384,6 +434,7 @@ module _ (words : List (List ℕ)) (v : Visit) (is : IsTold v) where
       absurd (stops_bytes calls.2 calls.4.bytes why (subst (λ (n : List ℕ). FileStops v MOST_ANSWER_BYTES n why) same cause.4.1) calls.4.held calls.4.short)
   reply_called (reply.Unreadable at) cause (of_query other name) calls = absurd (calls_query_audit name calls.0 calls.1 cause.0 cause.1 cause.2 other calls.2 calls.3 cause.3)
   reply_called (reply.Unreadable at) cause (of_syntax place) calls = absurd (syntax_asks calls.0 calls.1 cause.3.accepted.folder calls.2 cause.0 place calls.3 calls.4 cause.3.accepted.asks)
+  reply_called (reply.Unreadable at) cause (of_rule rule) calls = absurd (rule_asks calls.0 calls.1 cause.3.accepted.folder calls.2 cause.0 rule calls.3 calls.4 cause.3.accepted.asks)
   reply_called (reply.Unreadable at) cause (of_table other name) calls = absurd (calls_table_audit name calls.0 calls.1 cause.0 cause.1 cause.2 other calls.2 calls.3 calls.4 cause.3)
   reply_called (reply.Unreadable at) cause (of_answer other name) calls =
       let same : cause.2 ≡ name = one_name cause.0 calls.0 cause.1 calls.1 cause.2 name cause.3 calls.2 in
@@ -393,6 +444,7 @@ module _ (words : List (List ℕ)) (v : Visit) (is : IsTold v) where
       (refl, ap unreadable_line (same_line calls.2 at line (subst (λ (n : List ℕ). IsUnreadable v n at) same cause.4) calls.4))
   reply_called (reply.Accepted objective) cause (of_query other name) calls = absurd (calls_query_audit name calls.0 calls.1 cause.0 cause.1 cause.2 other calls.2 calls.3 cause.3)
   reply_called (reply.Accepted objective) cause (of_syntax place) calls = absurd (syntax_asks calls.0 calls.1 cause.3.accepted.folder calls.2 cause.0 place calls.3 calls.4 cause.3.accepted.asks)
+  reply_called (reply.Accepted objective) cause (of_rule rule) calls = absurd (rule_asks calls.0 calls.1 cause.3.accepted.folder calls.2 cause.0 rule calls.3 calls.4 cause.3.accepted.asks)
   reply_called (reply.Accepted objective) cause (of_table other name) calls = absurd (calls_table_audit name calls.0 calls.1 cause.0 cause.1 cause.2 other calls.2 calls.3 calls.4 cause.3)
   reply_called (reply.Accepted objective) cause (of_answer other name) calls =
       let same : cause.2 ≡ name = one_name cause.0 calls.0 cause.1 calls.1 cause.2 name cause.3 calls.2 in
@@ -402,6 +454,7 @@ module _ (words : List (List ℕ)) (v : Visit) (is : IsTold v) where
       absurd (reads_none calls.2 calls.4.bytes cause.4.0 (subst (λ (n : List ℕ). Reads v n cause.4.0) same cause.4.1) calls.4.held calls.4.none)
   reply_called (reply.Rejected reason part node) cause (of_query other name) calls = absurd (calls_query_audit name calls.0 calls.1 cause.0 cause.1 cause.2 other calls.2 calls.3 cause.3)
   reply_called (reply.Rejected reason part node) cause (of_syntax place) calls = absurd (syntax_asks calls.0 calls.1 cause.3.accepted.folder calls.2 cause.0 place calls.3 calls.4 cause.3.accepted.asks)
+  reply_called (reply.Rejected reason part node) cause (of_rule rule) calls = absurd (rule_asks calls.0 calls.1 cause.3.accepted.folder calls.2 cause.0 rule calls.3 calls.4 cause.3.accepted.asks)
   reply_called (reply.Rejected reason part node) cause (of_table other name) calls = absurd (calls_table_audit name calls.0 calls.1 cause.0 cause.1 cause.2 other calls.2 calls.3 calls.4 cause.3)
   reply_called (reply.Rejected reason part node) cause (of_answer other name) calls =
       let same : cause.2 ≡ name = one_name cause.0 calls.0 cause.1 calls.1 cause.2 name cause.3 calls.2 in
@@ -421,6 +474,7 @@ module _ (words : List (List ℕ)) (v : Visit) (is : IsTold v) where
   reply_answered reply.Words none query rows accepted budget solves = absurd (none_accepted query rows none accepted)
   reply_answered (reply.Query why at) cause query rows accepted budget solves = absurd (stops_asks (string_bytes at) cause.0 accepted.folder cause.1 query why cause.2 cause.3 accepted.asks)
   reply_answered (reply.Syntax place) cause query rows accepted budget solves = absurd (syntax_asks cause.0 cause.1 accepted.folder cause.2 query place cause.3 cause.4 accepted.asks)
+  reply_answered (reply.Unsound rule) cause query rows accepted budget solves = absurd (rule_asks cause.0 cause.1 accepted.folder cause.2 query rule cause.3 cause.4 accepted.asks)
   reply_answered (reply.Table why at) cause query rows accepted budget solves = absurd (table_stops_accepted (string_bytes at) cause.0 cause.1 query rows why cause.2 cause.3 cause.4 accepted)
   reply_answered (reply.Answered answer) cause query rows accepted budget solves = answered_verdict answer.verdict
   reply_answered (reply.Answer why at) cause query rows accepted budget solves = absurd (not_both_commands query cause.0 rows cause.1 cause.2 budget accepted solves cause.3)
@@ -452,6 +506,7 @@ module _ (words : List (List ℕ)) (v : Visit) (is : IsTold v) where
     reply_checked reply.Words none outcome of = absurd (none_accepted query rows none audits.accepted)
     reply_checked (reply.Query why at) cause outcome of = absurd (stops_asks (string_bytes at) cause.0 audits.accepted.folder cause.1 query why cause.2 cause.3 audits.accepted.asks)
     reply_checked (reply.Syntax place) cause outcome of = absurd (syntax_asks cause.0 cause.1 audits.accepted.folder cause.2 query place cause.3 cause.4 audits.accepted.asks)
+    reply_checked (reply.Unsound rule) cause outcome of = absurd (rule_asks cause.0 cause.1 audits.accepted.folder cause.2 query rule cause.3 cause.4 audits.accepted.asks)
     reply_checked (reply.Table why at) cause outcome of = absurd (table_stops_accepted (string_bytes at) cause.0 cause.1 query rows why cause.2 cause.3 cause.4 audits.accepted)
     reply_checked (reply.Answered other) cause outcome of = absurd (not_both_commands cause.0 query cause.1 rows name cause.3 cause.2 cause.4 audits)
     reply_checked (reply.Answer why at) cause outcome of =
@@ -473,6 +528,7 @@ module _ (words : List (List ℕ)) (v : Visit) (is : IsTold v) where
     reply_accepts reply.Words none valid = absurd (none_accepted query rows none audits.accepted)
     reply_accepts (reply.Query why at) cause valid = absurd (stops_asks (string_bytes at) cause.0 audits.accepted.folder cause.1 query why cause.2 cause.3 audits.accepted.asks)
     reply_accepts (reply.Syntax place) cause valid = absurd (syntax_asks cause.0 cause.1 audits.accepted.folder cause.2 query place cause.3 cause.4 audits.accepted.asks)
+    reply_accepts (reply.Unsound rule) cause valid = absurd (rule_asks cause.0 cause.1 audits.accepted.folder cause.2 query rule cause.3 cause.4 audits.accepted.asks)
     reply_accepts (reply.Table why at) cause valid = absurd (table_stops_accepted (string_bytes at) cause.0 cause.1 query rows why cause.2 cause.3 cause.4 audits.accepted)
     reply_accepts (reply.Answered other) cause valid = absurd (not_both_commands cause.0 query cause.1 rows name cause.3 cause.2 cause.4 audits)
     reply_accepts (reply.Answer why at) cause valid =

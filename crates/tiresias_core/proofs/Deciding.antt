@@ -49,6 +49,7 @@ audit_reply : (words : List (List ℕ)) (v : Visit) (query : FirstQuery) (rows :
 audit_reply words v query rows name audits reply.Words is = absurd is
 audit_reply words v query rows name audits (reply.Query fault at) is = absurd is
 audit_reply words v query rows name audits (reply.Syntax place) is = absurd is
+audit_reply words v query rows name audits (reply.Unsound fault) is = absurd is
 audit_reply words v query rows name audits (reply.Table fault at) is = absurd is
 audit_reply words v query rows name audits (reply.Answered answer) is = absurd is
 audit_reply words v query rows name audits (reply.Answer fault at) is = (query, rows, name, audits, is)

@@ -48,6 +48,7 @@ reads_of before now faults faults' first last told (reply.Query fault.TooLong na
 reads_of before now faults faults' first last told (reply.Query fault.NotBuilt name) kept tells unread whole room = kept
 reads_of before now faults faults' first last told (reply.Query fault.ReadFailed name) kept tells unread whole room = absurd (unread (same_status before now faults faults' told (reply.Query fault.ReadFailed name) tells whole room))
 reads_of before now faults faults' first last told (reply.Syntax place) kept tells unread whole room = kept
+reads_of before now faults faults' first last told (reply.Unsound fault) kept tells unread whole room = kept
 reads_of before now faults faults' first last told (reply.Table fault.Absent name) kept tells unread whole room = kept
 reads_of before now faults faults' first last told (reply.Table fault.TooLong name) kept tells unread whole room = kept
 reads_of before now faults faults' first last told (reply.Table fault.NotBuilt name) kept tells unread whole room = kept

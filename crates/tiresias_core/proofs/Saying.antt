@@ -14,7 +14,7 @@ use Rattle.tiresias_core.specs.Words.{form_of}
 use Rattle.tiresias_core.specs.Visits.{Visit, Holds}
 use Rattle.tiresias_core.specs.Causes.{IsReply, FileStops}
 use Rattle.tiresias_core.specs.Replies.{status_of, text_of, fault_line, accepted_line, verdict_status}
-use Rattle.tiresias_core.specs.Results.{WroteAccepted, WroteBest, WroteNone, WroteNoQuery, WroteNoTable, WroteRejected, WroteSyntax, WroteUnfinished, WroteUnread, WroteUnreadable}
+use Rattle.tiresias_core.specs.Results.{WroteAccepted, WroteBest, WroteNone, WroteNoTable, WroteRefusedQuery, WroteRejected, WroteUnfinished, WroteUnread, WroteUnreadable}
 use Rattle.tiresias_core.specs.Runs.{Leaves}
 use Rattle.tiresias_core.specs.declared.fetch.TheConstants.{MOST_FILE_BYTES, MOST_ANSWER_BYTES}
 use Rattle.tiresias_core.specs.declared.reply.Reply.{Reply}
@@ -29,6 +29,7 @@ module _ (words : List (List ℕ)) (v : Visit) (before now : Option (List ℕ)) 
   done_of (reply.Query fault.TooLong name) is same text = absurd cc
   done_of (reply.Query fault.NotBuilt name) is same text = absurd cc
   done_of (reply.Syntax place) is same text = absurd cc
+  done_of (reply.Unsound fault) is same text = absurd cc
   done_of (reply.Table fault.Absent name) is same text = absurd cc
   done_of (reply.Table fault.ReadFailed name) is same text = absurd cc
   done_of (reply.Table fault.TooLong name) is same text = absurd cc
@@ -55,6 +56,7 @@ module _ (words : List (List ℕ)) (v : Visit) (before now : Option (List ℕ)) 
   none_of (reply.Query fault.TooLong name) is same text = absurd cc
   none_of (reply.Query fault.NotBuilt name) is same text = absurd cc
   none_of (reply.Syntax place) is same text = absurd cc
+  none_of (reply.Unsound fault) is same text = absurd cc
   none_of (reply.Table fault.Absent name) is same text = absurd cc
   none_of (reply.Table fault.ReadFailed name) is same text = absurd cc
   none_of (reply.Table fault.TooLong name) is same text = absurd cc
@@ -81,6 +83,7 @@ module _ (words : List (List ℕ)) (v : Visit) (before now : Option (List ℕ)) 
   unfinished_of (reply.Query fault.TooLong name) is same text = absurd cc
   unfinished_of (reply.Query fault.NotBuilt name) is same text = absurd cc
   unfinished_of (reply.Syntax place) is same text = absurd cc
+  unfinished_of (reply.Unsound fault) is same text = absurd cc
   unfinished_of (reply.Table fault.Absent name) is same text = absurd cc
   unfinished_of (reply.Table fault.ReadFailed name) is same text = absurd cc
   unfinished_of (reply.Table fault.TooLong name) is same text = absurd cc
@@ -107,6 +110,7 @@ module _ (words : List (List ℕ)) (v : Visit) (before now : Option (List ℕ)) 
   words_of (reply.Query fault.TooLong name) is same text = absurd cc
   words_of (reply.Query fault.NotBuilt name) is same text = absurd cc
   words_of (reply.Syntax place) is same text = absurd cc
+  words_of (reply.Unsound fault) is same text = absurd cc
   words_of (reply.Table fault.Absent name) is same text = absurd cc
   words_of (reply.Table fault.ReadFailed name) is same text = absurd cc
   words_of (reply.Table fault.TooLong name) is same text = absurd cc
@@ -133,6 +137,7 @@ module _ (words : List (List ℕ)) (v : Visit) (before now : Option (List ℕ)) 
   unread_of (reply.Query fault.TooLong name) is same text = record { name = string_bytes name; why = fault.TooLong; most = MOST_FILE_BYTES; limit = inl refl; cause = is.3; text = text }
   unread_of (reply.Query fault.NotBuilt name) is same text = absurd cc
   unread_of (reply.Syntax place) is same text = absurd cc
+  unread_of (reply.Unsound fault) is same text = absurd cc
   unread_of (reply.Table fault.Absent name) is same text = record { name = string_bytes name; why = fault.Absent; most = MOST_FILE_BYTES; limit = inl refl; cause = is.4; text = text }
   unread_of (reply.Table fault.ReadFailed name) is same text = record { name = string_bytes name; why = fault.ReadFailed; most = MOST_FILE_BYTES; limit = inl refl; cause = is.4; text = text }
   unread_of (reply.Table fault.TooLong name) is same text = record { name = string_bytes name; why = fault.TooLong; most = MOST_FILE_BYTES; limit = inl refl; cause = is.4; text = text }
@@ -152,13 +157,14 @@ module _ (words : List (List ℕ)) (v : Visit) (before now : Option (List ℕ)) 
       by_verdict (verdict.NoWorld part) at same = absurd cc
       by_verdict (verdict.Unfinished nodes parts) at same = absurd cc
 
-  no_query_of : (told : Reply) → IsReply words v told → status.Query ≡ status_of told → Appends before now (text_of told) → WroteNoQuery words v before now ⊎ WroteSyntax words v before now
+  no_query_of : (told : Reply) → IsReply words v told → status.Query ≡ status_of told → Appends before now (text_of told) → WroteRefusedQuery words v before now
   no_query_of reply.Words is same text = absurd cc
   no_query_of (reply.Query fault.Absent name) is same text = absurd cc
   no_query_of (reply.Query fault.ReadFailed name) is same text = absurd cc
   no_query_of (reply.Query fault.TooLong name) is same text = absurd cc
-  no_query_of (reply.Query fault.NotBuilt name) is same text = inl (record { name = string_bytes name; folder = is.0; command = is.1; form = is.2; bytes = is.3.0; held = is.3.1; unbuilt = is.3.3; text = text })
-  no_query_of (reply.Syntax place) is same text = inr (record { name = is.0; folder = is.1; command = is.2; form = is.3; bytes = is.4.0; held = is.4.1; place = place; stop = is.4.3; text = text })
+  no_query_of (reply.Query fault.NotBuilt name) is same text = inr (inr (record { name = string_bytes name; folder = is.0; command = is.1; form = is.2; bytes = is.3.0; held = is.3.1; unbuilt = is.3.3; text = text }))
+  no_query_of (reply.Syntax place) is same text = inl (record { name = is.0; folder = is.1; command = is.2; form = is.3; bytes = is.4.0; held = is.4.1; place = place; stop = is.4.3; text = text })
+  no_query_of (reply.Unsound fault) is same text = inr (inl (record { name = is.0; folder = is.1; command = is.2; form = is.3; bytes = is.4.0; held = is.4.1; fault = fault; broken = is.4.3; text = text }))
   no_query_of (reply.Table fault.Absent name) is same text = absurd cc
   no_query_of (reply.Table fault.ReadFailed name) is same text = absurd cc
   no_query_of (reply.Table fault.TooLong name) is same text = absurd cc
@@ -172,7 +178,7 @@ module _ (words : List (List ℕ)) (v : Visit) (before now : Option (List ℕ)) 
   no_query_of (reply.Rejected reason part node) is same text = absurd cc
   no_query_of (reply.Answered answer) is same text = by_verdict answer.verdict refl same
     where
-      by_verdict : (told : Verdict) → answer.verdict ≡ told → status.Query ≡ verdict_status told → WroteNoQuery words v before now ⊎ WroteSyntax words v before now
+      by_verdict : (told : Verdict) → answer.verdict ≡ told → status.Query ≡ verdict_status told → WroteRefusedQuery words v before now
       by_verdict (verdict.Optimal objective worlds parts) at same = absurd cc
       by_verdict (verdict.FalseRow row) at same = absurd cc
       by_verdict (verdict.NoWorld part) at same = absurd cc
@@ -185,6 +191,7 @@ module _ (words : List (List ℕ)) (v : Visit) (before now : Option (List ℕ)) 
   no_table_of (reply.Query fault.TooLong name) is same text = absurd cc
   no_table_of (reply.Query fault.NotBuilt name) is same text = absurd cc
   no_table_of (reply.Syntax place) is same text = absurd cc
+  no_table_of (reply.Unsound fault) is same text = absurd cc
   no_table_of (reply.Table fault.Absent name) is same text = absurd cc
   no_table_of (reply.Table fault.ReadFailed name) is same text = absurd cc
   no_table_of (reply.Table fault.TooLong name) is same text = absurd cc
@@ -211,6 +218,7 @@ module _ (words : List (List ℕ)) (v : Visit) (before now : Option (List ℕ)) 
   rejected_of (reply.Query fault.TooLong name) is same text = absurd cc
   rejected_of (reply.Query fault.NotBuilt name) is same text = absurd cc
   rejected_of (reply.Syntax place) is same text = absurd cc
+  rejected_of (reply.Unsound fault) is same text = absurd cc
   rejected_of (reply.Table fault.Absent name) is same text = absurd cc
   rejected_of (reply.Table fault.ReadFailed name) is same text = absurd cc
   rejected_of (reply.Table fault.TooLong name) is same text = absurd cc
@@ -237,6 +245,7 @@ module _ (words : List (List ℕ)) (v : Visit) (before now : Option (List ℕ)) 
   unreadable_of (reply.Query fault.TooLong name) is same text = absurd cc
   unreadable_of (reply.Query fault.NotBuilt name) is same text = absurd cc
   unreadable_of (reply.Syntax place) is same text = absurd cc
+  unreadable_of (reply.Unsound fault) is same text = absurd cc
   unreadable_of (reply.Table fault.Absent name) is same text = absurd cc
   unreadable_of (reply.Table fault.ReadFailed name) is same text = absurd cc
   unreadable_of (reply.Table fault.TooLong name) is same text = absurd cc
@@ -275,7 +284,7 @@ module _ (words : List (List ℕ)) (v : Visit) (before now : Option (List ℕ)) 
     pub read_says : told ≡ status.Read → WroteUnread words v before now
     read_says same = let w = at status.Read same in unread_of w.reply w.cause w.same w.text
 
-    pub query_says : told ≡ status.Query → WroteNoQuery words v before now ⊎ WroteSyntax words v before now
+    pub query_says : told ≡ status.Query → WroteRefusedQuery words v before now
     query_says same = let w = at status.Query same in no_query_of w.reply w.cause w.same w.text
 
     pub tables_says : told ≡ status.Tables → WroteNoTable words v before now

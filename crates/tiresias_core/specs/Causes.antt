@@ -4,6 +4,9 @@ use Rattle.tiql_read.specs.declared.query.FirstQuery.{FirstQuery}
 use Rattle.base_kit.specs.declared.place.Place.{Place}
 use Rattle.tiql_tree.specs.declared.tree.Tree.{Tree}
 use Rattle.tiql_tree.specs.Spelled.{Spelled, IsStop as IsSyntaxStop}
+use Rattle.tiql_query.specs.declared.query.Query.{Query}
+use Rattle.tiql_check.specs.declared.fault.SoundFault.{SoundFault}
+use Rattle.tiql_check.specs.Sound.{Sound, FirstBroken}
 use Rattle.tiresias_core.specs.FirstTrees.{IsFirstTree, IsFirstText}
 use Rattle.tables_csv.specs.Tables.{IsFirstTable}
 use Rattle.world_def.specs.First.{Rows}
@@ -34,11 +37,15 @@ abbrev pub StopsFetch : Visit → ℕ → List ℕ → Stop → Type 0
 StopsFetch v most name (stop.Fault fault) = FileStops v most name fault
 StopsFetch v most name stop.Memory = Unit {0}
 
--- the bytes spell a tree, and it is that of no first text
+-- the bytes spell a tree that is sound, and it is that of no first text
 abbrev pub IsUnbuilt : List ℕ → Type 0
-IsUnbuilt bytes = (tree : Tree) × Spelled bytes tree × ((query : FirstQuery) → IsFirstTree tree query → ⊥)
+IsUnbuilt bytes = (tree : Tree) × Spelled bytes tree × ((checked : Query) × Sound tree checked) × ((query : FirstQuery) → IsFirstTree tree query → ⊥)
 
--- the query's file is not to be had, or spells a tree that is that of no first text
+-- the bytes spell a tree, and this is the rule of soundness that it breaks first
+abbrev pub IsUnsound : List ℕ → SoundFault → Type 0
+IsUnsound bytes fault = (tree : Tree) × Spelled bytes tree × FirstBroken tree fault
+
+-- the query's file is not to be had, or spells a sound tree that is that of no first text
 abbrev pub QueryStops : Visit → List ℕ → FileFault → Type 0
 QueryStops v name fault.Absent = FileStops v MOST_FILE_BYTES name fault.Absent
 QueryStops v name fault.ReadFailed = FileStops v MOST_FILE_BYTES name fault.ReadFailed
@@ -48,6 +55,10 @@ QueryStops v name fault.NotBuilt = (bytes : List ℕ) × Holds v name bytes × (
 -- the query's file spells no tree, and stops at this place
 abbrev pub SyntaxStops : Visit → List ℕ → Place → Type 0
 SyntaxStops v name place = (bytes : List ℕ) × Holds v name bytes × (length bytes ≤ MOST_FILE_BYTES) × IsSyntaxStop bytes place
+
+-- the query's file spells a tree that breaks this rule first
+abbrev pub SoundStops : Visit → List ℕ → SoundFault → Type 0
+SoundStops v name fault = (bytes : List ℕ) × Holds v name bytes × (length bytes ≤ MOST_FILE_BYTES) × IsUnsound bytes fault
 
 -- the table's file is not to be had, or is no first table with the query's columns
 abbrev pub TableStops : Visit → FirstQuery → List ℕ → FileFault → Type 0
@@ -91,6 +102,7 @@ abbrev pub NoneFailed : ℕ → ℕ → Reply → Type 0
 NoneFailed before now reply.Words = now ≡ before
 NoneFailed before now (reply.Query fault name) = KeepsFaults before now fault
 NoneFailed before now (reply.Syntax place) = now ≡ before
+NoneFailed before now (reply.Unsound fault) = now ≡ before
 NoneFailed before now (reply.Table fault name) = KeepsFaults before now fault
 NoneFailed before now (reply.Answered answer) = now ≡ before
 NoneFailed before now (reply.Answer fault name) = KeepsFaults before now fault
@@ -118,6 +130,7 @@ abbrev pub IsAudit : Visit → FirstQuery → Rows → List ℕ → Reply → Ty
 IsAudit v query rows name reply.Words = ⊥
 IsAudit v query rows name (reply.Query fault at) = ⊥
 IsAudit v query rows name (reply.Syntax place) = ⊥
+IsAudit v query rows name (reply.Unsound fault) = ⊥
 IsAudit v query rows name (reply.Table fault at) = ⊥
 IsAudit v query rows name (reply.Answered answer) = ⊥
 IsAudit v query rows name (reply.Answer fault at) = (string_bytes at ≡ name) × FileStops v MOST_ANSWER_BYTES name fault
@@ -139,6 +152,7 @@ abbrev pub IsReply : List (List ℕ) → Visit → Reply → Type 0
 IsReply words v reply.Words = form_of words ≡ None
 IsReply words v (reply.Query fault name) = (folder : List ℕ) × (command : Command) × (form_of words ≡ Some (string_bytes name, folder, command)) × QueryStops v (string_bytes name) fault
 IsReply words v (reply.Syntax place) = (name : List ℕ) × (folder : List ℕ) × (command : Command) × (form_of words ≡ Some (name, folder, command)) × SyntaxStops v name place
+IsReply words v (reply.Unsound fault) = (name : List ℕ) × (folder : List ℕ) × (command : Command) × (form_of words ≡ Some (name, folder, command)) × SoundStops v name fault
 IsReply words v (reply.Table fault name) = (folder : List ℕ) × (query : FirstQuery) × Asks words v folder query × (string_bytes name ≡ table_path folder query.table) × TableStops v query (string_bytes name) fault
 IsReply words v (reply.Answered answer) = (query : FirstQuery) × (rows : Rows) × (accepted : Accepted words v query rows) × (nodes : ℕ) × (accepted.asks.command ≡ solve nodes) × Answers query rows nodes answer
 IsReply words v (reply.Answer fault name) = IsAudited words v (reply.Answer fault name)

@@ -8,12 +8,13 @@ use Rattle.cert_check.specs.Reasons.{Outcome}
 use Rattle.cert_check.specs.declared.fault.CheckFault.TheVariants as wrong
 use Rattle.tiql_read.specs.declared.query.FirstQuery.{FirstQuery}
 use Rattle.base_kit.specs.declared.place.Place.{Place}
+use Rattle.tiql_check.specs.declared.fault.SoundFault.{SoundFault}
 use Rattle.tables_csv.specs.Tables.{IsFirstTable}
 use Rattle.world_def.specs.First.{Rows}
 use Rattle.tiresias_core.specs.Words.{Command, form_of, table_path}
 use Rattle.tiresias_core.specs.Visits.{Visit, Holds, IsFailed, IsLong}
-use Rattle.tiresias_core.specs.Causes.{Asks, Audits, IsUnbuilt, SyntaxStops}
-use Rattle.tiresias_core.specs.Replies.{fault_line, fault_status, syntax_line, accepted_line, rejected_line, unreadable_line}
+use Rattle.tiresias_core.specs.Causes.{Asks, Audits, IsUnbuilt, SoundStops, SyntaxStops}
+use Rattle.tiresias_core.specs.Replies.{fault_line, fault_status, syntax_line, unsound_line, accepted_line, rejected_line, unreadable_line}
 use Rattle.tiresias_core.specs.Verdicts.{objective_of}
 use Rattle.tiresias_core.specs.declared.fetch.TheConstants.{MOST_FILE_BYTES, MOST_ANSWER_BYTES}
 use Rattle.tiresias_core.specs.declared.reply.FileFault.{FileFault}
@@ -25,10 +26,11 @@ pub record IsTold (v : Visit) : Type 0 where
   pub told : v.held ≡ Some held
   pub none_failed : ¬ IsFailed v
 
--- a refusal of a file, by its name, of a query by its place, or of an answer by its line
+-- a refusal of a file, by its name, of a query by its place or rule, or of an answer by its line
 pub data Refusal : Type 0 where
   of_query : FileFault → List ℕ → Refusal
   of_syntax : Place → Refusal
+  of_rule : SoundFault → Refusal
   of_table : FileFault → List ℕ → Refusal
   of_answer : FileFault → List ℕ → Refusal
   of_line : ℕ → Refusal
@@ -36,6 +38,7 @@ pub data Refusal : Type 0 where
 abbrev pub refusal_status : Refusal → Status
 refusal_status (of_query why name) = fault_status status.Query why
 refusal_status (of_syntax place) = status.Query
+refusal_status (of_rule fault) = status.Query
 refusal_status (of_table why name) = fault_status status.Tables why
 refusal_status (of_answer why name) = fault_status status.Unreadable why
 refusal_status (of_line line) = status.Unreadable
@@ -43,11 +46,12 @@ refusal_status (of_line line) = status.Unreadable
 abbrev pub refusal_line : Refusal → List ℕ
 refusal_line (of_query why name) = fault_line why name
 refusal_line (of_syntax place) = syntax_line place
+refusal_line (of_rule fault) = unsound_line fault
 refusal_line (of_table why name) = fault_line why name
 refusal_line (of_answer why name) = fault_line why name
 refusal_line (of_line line) = unreadable_line line
 
--- nothing stands under the query's name, or too much, or bytes that spell a tree which is that of no first text
+-- nothing stands under the query's name, or too much, or bytes that spell a sound tree which is that of no first text
 abbrev pub QueryCalls : Visit → List ℕ → FileFault → Type 0
 QueryCalls v name fault.Absent = IfSome v.held (λ held. held name ≡ None)
 QueryCalls v name fault.ReadFailed = ⊥
@@ -82,6 +86,7 @@ pub record LineCalls (v : Visit) (name : List ℕ) (line : ℕ) : Type 0 where
 abbrev pub Calls : List (List ℕ) → Visit → Refusal → Type 0
 Calls words v (of_query why name) = (folder : List ℕ) × (command : Command) × (form_of words ≡ Some (name, folder, command)) × QueryCalls v name why
 Calls words v (of_syntax place) = (name : List ℕ) × (folder : List ℕ) × (command : Command) × (form_of words ≡ Some (name, folder, command)) × SyntaxStops v name place
+Calls words v (of_rule fault) = (name : List ℕ) × (folder : List ℕ) × (command : Command) × (form_of words ≡ Some (name, folder, command)) × SoundStops v name fault
 Calls words v (of_table why name) = (folder : List ℕ) × (query : FirstQuery) × Asks words v folder query × (name ≡ table_path folder query.table) × TableCalls v query name why
 Calls words v (of_answer why name) = (query : FirstQuery) × (rows : Rows) × Audits words v query rows name × AnswerCalls v name why
 Calls words v (of_line line) = (query : FirstQuery) × (rows : Rows) × (name : List ℕ) × Audits words v query rows name × LineCalls v name line

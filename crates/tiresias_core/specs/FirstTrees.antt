@@ -15,6 +15,8 @@ use Rattle.tiql_tree.specs.declared.expression.TreeForm.TheVariants.{Number, Ref
 use Rattle.tiql_tree.specs.Trees.{expr_at}
 use Rattle.tiql_tree.specs.Unplaced.{no_place, tree_only}
 use Rattle.tiql_tree.specs.Spelled.{Spelled}
+use Rattle.tiql_query.specs.declared.query.Query.{Query}
+use Rattle.tiql_check.specs.Sound.{Sound}
 use Rattle.tiql_read.specs.declared.query.FirstCmp.{FirstCmp}
 use Rattle.tiql_read.specs.declared.query.FirstCmp.TheVariants as cmp
 use Rattle.tiql_read.specs.declared.query.FirstQuery.{FirstQuery}
@@ -104,8 +106,10 @@ pub record IsFirstTree (tree : Tree) (query : FirstQuery) : Type 0 where
   pub first : IsFirstQuery query
   pub few : length query.columns < 2 ^ 32
 
--- the bytes are a first text of this query
+-- the bytes are a first text of this query: they spell a tree that is sound and that of a first text
 pub record IsFirstText (bytes : List ℕ) (query : FirstQuery) : Type 0 where
   pub tree : Tree
   pub spelled : Spelled bytes tree
+  pub checked : Query
+  pub sound : Sound tree checked
   pub first : IsFirstTree tree query

@@ -9,6 +9,8 @@ use Rattle.answer_text.specs.declared.answer.Verdict.TheVariants as verdict
 use Rattle.answer_text.specs.Text.{answer_bytes}
 use Rattle.cert_check.specs.declared.fault.Reject.{Reject}
 use Rattle.cert_check.specs.declared.fault.Reject.TheVariants as reject
+use Rattle.tiql_check.specs.declared.fault.SoundFault.{SoundFault}
+use Rattle.tiql_check.specs.declared.fault.SoundFault.TheVariants as rule
 use Rattle.tiresias_core.specs.declared.reply.Reply.{Reply}
 use Rattle.tiresias_core.specs.declared.reply.Reply.TheVariants as reply
 use Rattle.tiresias_core.specs.declared.reply.FileFault.{FileFault}
@@ -31,6 +33,7 @@ abbrev pub status_of : Reply → Status
 status_of reply.Words = status.Words
 status_of (reply.Query fault name) = fault_status status.Query fault
 status_of (reply.Syntax place) = status.Query
+status_of (reply.Unsound fault) = status.Query
 status_of (reply.Table fault name) = fault_status status.Tables fault
 status_of (reply.Answered answer) = verdict_status answer.verdict
 status_of (reply.Answer fault name) = fault_status status.Unreadable fault
@@ -48,6 +51,36 @@ fault_line fault.NotBuilt name = codes "refused: not built " ++ name ++ 10 ∷ [
 -- the line of a text that is no query, with the place where it stops being one
 abbrev pub syntax_line : Place → List ℕ
 syntax_line place = codes "refused: syntax " ++ decimal place.line ++ codes ":" ++ decimal place.column ++ 10 ∷ []
+
+-- the words of a rule of soundness
+abbrev pub rule_words : SoundFault → List ℕ
+rule_words (rule.UnknownName place) = codes "unknown name"
+rule_words (rule.SameName place) = codes "same name"
+rule_words (rule.NoSuchKeyColumn place) = codes "no such key column"
+rule_words (rule.KeyUnknown place) = codes "key unknown"
+rule_words (rule.KeyMissing place) = codes "key missing"
+rule_words (rule.WrongType place) = codes "wrong type"
+rule_words (rule.NotFixed place) = codes "not fixed"
+rule_words (rule.NotLinear place) = codes "not linear"
+rule_words (rule.NotGrouped place) = codes "not grouped"
+rule_words rule.Memory = []
+
+-- where it is broken
+abbrev pub rule_place : SoundFault → Place
+rule_place (rule.UnknownName place) = place
+rule_place (rule.SameName place) = place
+rule_place (rule.NoSuchKeyColumn place) = place
+rule_place (rule.KeyUnknown place) = place
+rule_place (rule.KeyMissing place) = place
+rule_place (rule.WrongType place) = place
+rule_place (rule.NotFixed place) = place
+rule_place (rule.NotLinear place) = place
+rule_place (rule.NotGrouped place) = place
+rule_place rule.Memory = record { line = 0; column = 0 }
+
+-- the line of a query that breaks this rule first, with the place where it does
+abbrev pub unsound_line : SoundFault → List ℕ
+unsound_line fault = codes "refused: " ++ rule_words fault ++ codes " " ++ decimal (rule_place fault).line ++ codes ":" ++ decimal (rule_place fault).column ++ 10 ∷ []
 
 -- the words of a reason
 abbrev pub reason_words : Reject → List ℕ
@@ -81,6 +114,7 @@ abbrev pub text_of : Reply → List ℕ
 text_of reply.Words = codes "refused: words\n"
 text_of (reply.Query fault name) = fault_line fault (string_bytes name)
 text_of (reply.Syntax place) = syntax_line place
+text_of (reply.Unsound fault) = unsound_line fault
 text_of (reply.Table fault name) = fault_line fault (string_bytes name)
 text_of (reply.Answered answer) = answer_bytes answer
 text_of (reply.Answer fault name) = fault_line fault (string_bytes name)

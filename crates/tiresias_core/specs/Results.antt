@@ -9,6 +9,7 @@ use Rattle.answer_text.specs.declared.answer.Verdict.TheVariants as verdict
 use Rattle.answer_text.specs.declared.answer.WorldText.{WorldText}
 use Rattle.tiql_read.specs.declared.query.FirstQuery.{FirstQuery}
 use Rattle.base_kit.specs.declared.place.Place.{Place}
+use Rattle.tiql_check.specs.declared.fault.SoundFault.{SoundFault}
 use Rattle.tiql_tree.specs.Spelled.{IsStop as IsSyntaxStop}
 use Rattle.tables_csv.specs.Tables.{IsFirstTable}
 use Rattle.world_def.specs.First.{Rows, NoneMeets}
@@ -19,8 +20,8 @@ use Rattle.cert_check.specs.Valid.{IsRight, IsValid}
 use Rattle.cert_check.specs.declared.fault.Reject.{Reject}
 use Rattle.cert_check.specs.declared.fault.CheckFault.TheVariants as wrong
 use Rattle.tiresias_core.specs.Visits.{Visit, Holds, IsAbsent, IsFailed, IsLong}
-use Rattle.tiresias_core.specs.Causes.{Asks, Accepted, Reads, IsUnbuilt, IsUnreadable, Audits}
-use Rattle.tiresias_core.specs.Replies.{fault_line, syntax_line, accepted_line, rejected_line, unreadable_line}
+use Rattle.tiresias_core.specs.Causes.{Asks, Accepted, Reads, IsUnbuilt, IsUnreadable, IsUnsound, Audits}
+use Rattle.tiresias_core.specs.Replies.{fault_line, syntax_line, unsound_line, accepted_line, rejected_line, unreadable_line}
 use Rattle.tiresias_core.specs.Verdicts.{objective_of}
 use Rattle.tiresias_core.specs.declared.fetch.TheConstants.{MOST_FILE_BYTES, MOST_ANSWER_BYTES}
 use Rattle.tiresias_core.specs.declared.reply.FileFault.{FileFault}
@@ -91,7 +92,7 @@ pub record WroteUnread (words : List (List ℕ)) (v : Visit) (before now : Optio
   pub cause : UnreadFor v most name why
   pub text : Appends before now (fault_line why name)
 
--- the line of a query's file that spells a tree which is that of no first text
+-- the line of a query's file that spells a tree and sound, and is that of no first text
 pub record WroteNoQuery (words : List (List ℕ)) (v : Visit) (before now : Option (List ℕ)) : Type 0 where
   pub name : List ℕ
   pub folder : List ℕ
@@ -113,6 +114,22 @@ pub record WroteSyntax (words : List (List ℕ)) (v : Visit) (before now : Optio
   pub place : Place
   pub stop : IsSyntaxStop bytes place
   pub text : Appends before now (syntax_line place)
+
+-- the line of a query's file that spells a tree which is not sound, with the rule that it breaks first
+pub record WroteUnsound (words : List (List ℕ)) (v : Visit) (before now : Option (List ℕ)) : Type 0 where
+  pub name : List ℕ
+  pub folder : List ℕ
+  pub command : Command
+  pub form : form_of words ≡ Some (name, folder, command)
+  pub bytes : List ℕ
+  pub held : Holds v name bytes
+  pub fault : SoundFault
+  pub broken : IsUnsound bytes fault
+  pub text : Appends before now (unsound_line fault)
+
+-- the line of a query's file that is no query, not sound, or not built
+abbrev pub WroteRefusedQuery : List (List ℕ) → Visit → Option (List ℕ) → Option (List ℕ) → Type 0
+WroteRefusedQuery words v before now = WroteSyntax words v before now ⊎ (WroteUnsound words v before now ⊎ WroteNoQuery words v before now)
 
 -- the line of a table's file that is no first table
 pub record WroteNoTable (words : List (List ℕ)) (v : Visit) (before now : Option (List ℕ)) : Type 0 where

@@ -6,6 +6,7 @@ ghost use Rattle.tiresias_core.specs.FirstTrees.{IsFirstText};
 use crate::first::first_of;
 use base_kit::{Memory, Place};
 use std::alloc::Global;
+use tiql_check::{SoundFault, check};
 use tiql_read::{FirstQuery, ReadFault, read_query};
 
 /// Why a text asks no query that is built.
@@ -13,7 +14,9 @@ use tiql_read::{FirstQuery, ReadFault, read_query};
 pub(crate) enum Unasked {
     /// It is no query (docs/LANGUAGE.md, "Grammar"), from this place on.
     Syntax(Place),
-    /// It is a query, and not that of a first text.
+    /// It is a query that breaks this rule first (docs/LANGUAGE.md, "Soundness").
+    Unsound(SoundFault),
+    /// It is a sound query, and not that of a first text.
     NotBuilt,
     /// There was not enough memory.
     Memory,
@@ -41,5 +44,9 @@ pub(crate) fn ask(alloc: Global, bytes: &[u8]) -> Result<FirstQuery, Unasked>
         Err(ReadFault::Syntax(place)) => return Err(Unasked::Syntax(place)),
         Err(ReadFault::Memory) => return Err(Unasked::Memory),
     };
-    first_of(alloc, &tree)?.ok_or(Unasked::NotBuilt)
+    match check(alloc, &tree) {
+        Ok(_) => first_of(alloc, &tree)?.ok_or(Unasked::NotBuilt),
+        Err(SoundFault::Memory) => Err(Unasked::Memory),
+        Err(fault) => Err(Unasked::Unsound(fault)),
+    }
 }

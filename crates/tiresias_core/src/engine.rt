@@ -14,7 +14,7 @@ ghost use Rattle.tiql_read.specs.declared.query.FirstQuery.{FirstQuery};
 ghost use Rattle.world_def.specs.First.{Rows, NoneMeets, root};
 ghost use Rattle.tiresias_core.specs.Causes.{Accepted, Audits, IsAudit, IsReply, NoneFailed, Reads};
 ghost use Rattle.tiresias_core.specs.Exact.{Calls, IsAnswered, IsTold, Refusal, outcome_line, outcome_status, refusal_line, refusal_status};
-ghost use Rattle.tiresias_core.specs.Results.{WroteAccepted, WroteBest, WroteNone, WroteNoQuery, WroteNoTable, WroteRejected, WroteSyntax, WroteUnfinished, WroteUnread, WroteUnreadable};
+ghost use Rattle.tiresias_core.specs.Results.{WroteAccepted, WroteBest, WroteNone, WroteNoTable, WroteRefusedQuery, WroteRejected, WroteUnfinished, WroteUnread, WroteUnreadable};
 ghost use Rattle.tiresias_core.specs.Runs.{Leaves, Tells};
 ghost use Rattle.tiresias_core.specs.Words.{form_of, solve};
 ghost use Rattle.tiresias_core.specs.Visits.{visit};
@@ -42,7 +42,7 @@ pub fn run<S: Shelf, K: Sink>(alloc: Global, words: &[String], shelf: &mut S, ou
     ensures rejected { result ≡ Status.Rejected → WroteRejected (map (λ word. string_bytes word) words.now) (visit S.held S.misses S.faults shelf.old shelf.new) (K.written out.old) (K.written out.new) }
     ensures unreadable { result ≡ Status.Unreadable → WroteUnreadable (map (λ word. string_bytes word) words.now) (visit S.held S.misses S.faults shelf.old shelf.new) (K.written out.old) (K.written out.new) }
     ensures words { result ≡ Status.Words → form_of (map (λ word. string_bytes word) words.now) ≡ None }
-    ensures query { result ≡ Status.Query → WroteNoQuery (map (λ word. string_bytes word) words.now) (visit S.held S.misses S.faults shelf.old shelf.new) (K.written out.old) (K.written out.new) ⊎ WroteSyntax (map (λ word. string_bytes word) words.now) (visit S.held S.misses S.faults shelf.old shelf.new) (K.written out.old) (K.written out.new) }
+    ensures query { result ≡ Status.Query → WroteRefusedQuery (map (λ word. string_bytes word) words.now) (visit S.held S.misses S.faults shelf.old shelf.new) (K.written out.old) (K.written out.new) }
     ensures tables { result ≡ Status.Tables → WroteNoTable (map (λ word. string_bytes word) words.now) (visit S.held S.misses S.faults shelf.old shelf.new) (K.written out.old) (K.written out.new) }
     ensures read { result ≡ Status.Read → WroteUnread (map (λ word. string_bytes word) words.now) (visit S.held S.misses S.faults shelf.old shelf.new) (K.written out.old) (K.written out.new) }
     ensures write { result ≡ Status.Write → Rose (K.faults out.old) (K.faults out.new) }
@@ -111,6 +111,7 @@ fn decide<S: Shelf>(alloc: Global, words: &[String], shelf: &mut S) -> Result<Re
     let query = match ask(alloc, text.as_slice()) {
         Ok(query) => query,
         Err(Unasked::Syntax(place)) => return Ok(Reply::Syntax(place)),
+        Err(Unasked::Unsound(fault)) => return Ok(Reply::Unsound(fault)),
         Err(Unasked::NotBuilt) => {
             return Ok(Reply::Query(FileFault::NotBuilt, String::from_str(alloc, name)?));
         }

@@ -9,6 +9,7 @@ use answer_text::{Answer, Verdict, write_answer};
 use base_kit::{List, Memory, Place, Status};
 use cert_check::Reject;
 use std::alloc::Global;
+use tiql_check::SoundFault;
 
 /// Why a file is refused.
 #[derive(Clone, Copy, Debug, PartialEq, Eq)]
@@ -30,6 +31,8 @@ pub(crate) enum Reply {
     Query(FileFault, String),
     /// The query's text stops being one at this place.
     Syntax(Place),
+    /// The query breaks this rule first.
+    Unsound(SoundFault),
     Table(FileFault, String),
     Answered(Answer),
     /// The file of an answer that is to be checked.
@@ -50,6 +53,7 @@ pub(crate) fn status_of(reply: &Reply) -> Status
         Reply::Words => Status::Words,
         Reply::Query(fault, _) => fault_status(Status::Query, *fault),
         Reply::Syntax(_) => Status::Query,
+        Reply::Unsound(_) => Status::Query,
         Reply::Table(fault, _) => fault_status(Status::Tables, *fault),
         Reply::Answered(answer) => verdict_status(&answer.verdict),
         Reply::Answer(fault, _) => fault_status(Status::Unreadable, *fault),
@@ -89,6 +93,7 @@ pub(crate) fn text_of(alloc: Global, reply: &Reply) -> Result<List<u8>, Memory>
         Reply::Words => Ok(List::from_slice(alloc, b"refused: words\n")?),
         Reply::Query(fault, name) => fault_line(alloc, *fault, name.as_str()),
         Reply::Syntax(place) => syntax_line(alloc, *place),
+        Reply::Unsound(fault) => unsound_line(alloc, *fault),
         Reply::Table(fault, name) => fault_line(alloc, *fault, name.as_str()),
         Reply::Answered(answer) => write_answer(alloc, answer),
         Reply::Answer(fault, name) => fault_line(alloc, *fault, name.as_str()),
@@ -118,6 +123,34 @@ fn syntax_line(alloc: Global, place: Place) -> Result<List<u8>, Memory>
     let Place { line, column } = place;
     let text = format!(in alloc; "refused: syntax {line}:{column}\n")?;
     Ok(List::from_slice(alloc, text.as_bytes())?)
+}
+
+/// The line of a query that is not sound.
+fn unsound_line(alloc: Global, fault: SoundFault) -> Result<List<u8>, Memory>
+    ensures { IfOk result (λ text. text ≡ spec.unsound_line fault) }
+{
+    let (words, place) = rule_of(fault)?;
+    let Place { line, column } = place;
+    let text = format!(in alloc; "refused: {words} {line}:{column}\n")?;
+    Ok(List::from_slice(alloc, text.as_bytes())?)
+}
+
+/// The words of a rule, and where it is broken.
+fn rule_of(fault: SoundFault) -> Result<(&'static str, Place), Memory>
+    ensures { IfOk result (λ rule. (rule.0.now ≡ spec.rule_words fault) × (rule.1 ≡ spec.rule_place fault)) }
+{
+    match fault {
+        SoundFault::UnknownName(place) => Ok(("unknown name", place)),
+        SoundFault::SameName(place) => Ok(("same name", place)),
+        SoundFault::NoSuchKeyColumn(place) => Ok(("no such key column", place)),
+        SoundFault::KeyUnknown(place) => Ok(("key unknown", place)),
+        SoundFault::KeyMissing(place) => Ok(("key missing", place)),
+        SoundFault::WrongType(place) => Ok(("wrong type", place)),
+        SoundFault::NotFixed(place) => Ok(("not fixed", place)),
+        SoundFault::NotLinear(place) => Ok(("not linear", place)),
+        SoundFault::NotGrouped(place) => Ok(("not grouped", place)),
+        SoundFault::Memory => Err(Memory),
+    }
 }
 
 /// The line of bytes that are no answer's text.

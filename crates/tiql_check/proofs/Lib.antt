@@ -1,0 +1,11 @@
+pub mod Turns
+pub mod Names
+pub mod Forms
+pub mod Items
+pub mod Lists
+pub mod Inverse
+pub mod Fit
+pub mod FitExprs
+pub mod FitConds
+pub mod FitTables
+pub mod FitSelects
