@@ -1,6 +1,12 @@
+pub mod Conditions
+pub mod Expressions
 pub mod FirstTexts
+pub mod Outcomes
+pub mod Queries
 pub mod Reading
 pub mod Resolving
 pub mod Scan
+pub mod Selects
+pub mod Steps
 pub mod Tokens
 pub mod Views

@@ -1,0 +1,21 @@
+-- what the code gives for what is read by the rules of the grammar: the same, unless memory is wanting
+use Rattle.std.specs.Prelude.{◌≡◌, ℕ, Result, Ok, Err}
+use Rattle.std.specs.Borrow.{Bor}
+use Rattle.tiql_read.specs.declared.word.Stop.{Stop}
+use Rattle.tiql_read.specs.declared.word.Stop.TheVariants.{Wrong, Memory}
+use Rattle.tiql_read.specs.Steps.{Words, Reading}
+
+-- the same part, and the same words behind it
+abbrev pub Gives : {A : Type 0} → Result (A × Bor Words) Stop → Reading A → Type 0
+Gives (Ok x) outcome = outcome ≡ Ok (x.0, x.1.now)
+Gives (Err stop) outcome = (left : ℕ) → stop ≡ Wrong left → outcome ≡ Err left
+
+-- the same words behind what is read
+abbrev pub Goes : Result (Bor Words) Stop → Result Words ℕ → Type 0
+Goes (Ok rest) outcome = outcome ≡ Ok rest.now
+Goes (Err stop) outcome = (left : ℕ) → stop ≡ Wrong left → outcome ≡ Err left
+
+-- the same, of all words
+abbrev pub GivesAll : {A : Type 0} → Result A Stop → Result A ℕ → Type 0
+GivesAll (Ok x) outcome = outcome ≡ Ok x
+GivesAll (Err stop) outcome = (left : ℕ) → stop ≡ Wrong left → outcome ≡ Err left

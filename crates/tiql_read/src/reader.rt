@@ -1,0 +1,74 @@
+//! Reads the text of a query.
+ghost use Rattle.std.specs.Prelude.{◌≡◌, ◌-◌, ◌^◌, ◌<◌, length};
+
+use crate::whole::query;
+use crate::word::{Seen, Stop};
+use base_kit::{Memory, Place};
+use std::alloc::{AllocError, Global};
+use thiserror::Error;
+use tiql_lex::{Lexed, Token, tokens};
+use tiql_tree::Tree;
+
+/// Why no query was read.
+#[derive(Clone, Copy, Debug, PartialEq, Eq, Error)]
+pub enum ReadFault {
+    /// The bytes are no query (docs/LANGUAGE.md, "Grammar"); the place is that of the first token with which the tokens so
+    /// far begin none.
+    #[error("not a query, from line {} and column {} on", .0.line, .0.column)]
+    Syntax(Place),
+    /// There was not enough memory.
+    #[error("out of memory")]
+    Memory,
+}
+
+impl From<Memory> for ReadFault {
+    ghost use Rattle.std.specs.Prelude.{◌≡◌};
+    ghost use Rattle.tiql_read.specs.declared.reader.ReadFault.{ReadFault};
+
+    ghost from_gives = { λ _ fault. fault ≡ ReadFault.Memory };
+
+    fn from(_fault: Memory) -> ReadFault {
+        ReadFault::Memory
+    }
+}
+
+// The words of the tokens.
+fn words_of<'a>(alloc: Global, bytes: &'a [u8], tokens: &[Token]) -> Result<Vec<Seen<'a>>, Memory> {
+    let mut words = Vec::new(alloc);
+    for token in tokens {
+        words.push(Seen {
+            kind: token.kind,
+            text: &bytes[token.from as usize..token.to as usize],
+            place: token.place,
+        })?;
+    }
+    Ok(words)
+}
+
+// The place of the token from which on so many are left, or else where the tokens stop.
+fn place_of(lexed: &Lexed, left: usize) -> Place {
+    if left == 0 {
+        return lexed.stop.unwrap_or(lexed.end);
+    }
+    let tokens = lexed.tokens.as_slice();
+    tokens[tokens.len() - left].place
+}
+
+/// The tree of a query's text, of fewer than 2^32 - 1 bytes (docs/LANGUAGE.md, "Grammar").
+pub fn read_query(alloc: Global, bytes: &[u8]) -> Result<Tree, ReadFault>
+    requires { length bytes.now < 2 ^ 32 - 1 }
+{
+    let lexed = tokens(alloc, bytes)?;
+    let words = words_of(alloc, bytes, lexed.tokens.as_slice())?;
+    match query(alloc, words.as_slice()) {
+        Ok(tree) => match lexed.stop {
+            None => Ok(tree),
+            Some(place) => Err(ReadFault::Syntax(place)),
+        },
+        Err(Stop::Wrong(left)) => Err(ReadFault::Syntax(place_of(&lexed, left))),
+        Err(Stop::Memory) => Err(ReadFault::Memory),
+    }
+}
+
+#[cfg(test)]
+mod tests;
