@@ -6,3 +6,5 @@ pub mod NameLists
 pub mod Spellings
 pub mod Queries
 pub mod FirstReading
+pub mod Leaves
+pub mod Loops

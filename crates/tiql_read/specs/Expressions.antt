@@ -59,12 +59,16 @@ abbrev pub text_expr : Place → Option (List ℕ) → Option TreeExpr
 text_expr place None = None
 text_expr place (Some value) = Some (expr_at place (Text value))
 
+-- the number that the word is
+abbrev pub number_of : Seen → Option TreeExpr
+number_of seen = if is_number seen.text then Some (expr_at seen.place (Number (pos (digits_value 10 seen.text)))) else None
+
 -- the number or text that the word is
 unfoldable pub literal_of : Seen → Option TreeExpr
 literal_of seen =
     if is_kind kinds.Number seen.kind
-    then (if is_number seen.text.now then Some (expr_at seen.place (Number (pos (digits_value 10 seen.text.now)))) else None)
-    else (if is_kind kinds.Text seen.kind then text_expr seen.place (value_of_text seen.text.now) else None)
+    then number_of seen
+    else (if is_kind kinds.Text seen.kind then text_expr seen.place (value_of_text seen.text) else None)
 
 abbrev pub place_of : TreeExpr → Place
 place_of expr = (out-TreeExpr expr).place

@@ -8,5 +8,6 @@ pub mod Resolving
 pub mod Scan
 pub mod Selects
 pub mod Steps
+pub mod Stops
 pub mod Tokens
 pub mod Views

@@ -1,5 +1,5 @@
 -- what the code gives for what is read by the rules of the grammar: the same, unless memory is wanting
-use Rattle.std.specs.Prelude.{◌≡◌, ℕ, Result, Ok, Err}
+use Rattle.std.specs.Prelude.{◌≡◌, ℕ, List, ◌++◌, Result, Ok, Err}
 use Rattle.std.specs.Borrow.{Bor}
 use Rattle.tiql_read.specs.declared.word.Stop.{Stop}
 use Rattle.tiql_read.specs.declared.word.Stop.TheVariants.{Wrong, Memory}
@@ -19,3 +19,8 @@ Goes (Err stop) outcome = (left : ℕ) → stop ≡ Wrong left → outcome ≡ E
 abbrev pub GivesAll : {A : Type 0} → Result A Stop → Result A ℕ → Type 0
 GivesAll (Ok x) outcome = outcome ≡ Ok x
 GivesAll (Err stop) outcome = (left : ℕ) → stop ≡ Wrong left → outcome ≡ Err left
+
+-- these parts, and those that are read
+abbrev pub with_front : {A : Type 0} → List A → Reading (List A) → Reading (List A)
+with_front front (Ok more) = Ok (front ++ more.0, more.1)
+with_front front (Err left) = Err left

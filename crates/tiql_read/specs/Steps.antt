@@ -19,7 +19,7 @@ Reading A = Result (A × Words) ℕ
 
 -- a token without its place
 abbrev pub word_of : Seen → Word
-word_of seen = record { kind = seen.kind; text = seen.text.now }
+word_of seen = record { kind = seen.kind; text = seen.text }
 
 infixl 10 ◌>>=◌
 
@@ -91,7 +91,7 @@ mark_at test words = take_as (mark_of test) words
 
 -- the name that the word is, with its place
 unfoldable pub spot_of : Seen → Option Spot
-spot_of seen = if is_named (word_of seen) then Some (record { name = seen.text.now; place = seen.place }) else None
+spot_of seen = if is_named (word_of seen) then Some (record { name = seen.text; place = seen.place }) else None
 
 -- a name
 unfoldable pub spot_at : Words → Reading Spot

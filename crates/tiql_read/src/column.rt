@@ -13,7 +13,7 @@ use tiql_tree::{Spot, TreeExpr, TreeForm, TreeRef};
 
 // A name behind a point, where one stands here.
 #[tactic(auto, unfolding(crate::specs::Expressions::point_at))]
-fn behind_point<'a, 'b>(alloc: Global, words: &'b [Seen<'a>]) -> Reading<'a, 'b, Option<Spot>>
+fn behind_point(alloc: Global, words: &[Seen]) -> Reading<'_, Option<Spot>>
     ensures { Gives result (spec.point_at words.now) }
 {
     if !begins_sign(words, b".") {
@@ -43,7 +43,7 @@ fn ref_of(first: Spot, more: Option<Spot>) -> TreeRef
 
 /// A column, by its name alone or behind a relation's.
 #[tactic(auto, unfolding(crate::specs::Expressions::ref_at))]
-pub fn column<'a, 'b>(alloc: Global, words: &'b [Seen<'a>]) -> Reading<'a, 'b, TreeRef>
+pub fn column(alloc: Global, words: &[Seen]) -> Reading<'_, TreeRef>
     ensures { Gives result (spec.ref_at words.now) }
 {
     let (first, rest) = name(alloc, words)?;
@@ -53,7 +53,7 @@ pub fn column<'a, 'b>(alloc: Global, words: &'b [Seen<'a>]) -> Reading<'a, 'b, T
 
 /// The last name of a column.
 #[tactic(auto, unfolding(crate::specs::Expressions::ref_name_at))]
-pub fn column_name<'a, 'b>(alloc: Global, words: &'b [Seen<'a>]) -> Reading<'a, 'b, Spot>
+pub fn column_name(alloc: Global, words: &[Seen]) -> Reading<'_, Spot>
     ensures { Gives result (spec.ref_name_at words.now) }
 {
     let (first, rest) = name(alloc, words)?;
@@ -61,15 +61,11 @@ pub fn column_name<'a, 'b>(alloc: Global, words: &'b [Seen<'a>]) -> Reading<'a, 
     Ok((more.unwrap_or(first), rest))
 }
 
-// What a text in quotes says.
-#[tactic(auto, unfolding(crate::specs::Expressions::value_of_text))]
-fn value_of(alloc: Global, text: &[u8]) -> Result<Option<Txt>, Memory>
-    ensures { IfOk result (λ value. value ≡ spec.value_of_text text.now) }
+// A text of these bytes, where they are UTF-8 and not too many.
+fn short_text(alloc: Global, value: &[u8]) -> Result<Option<Txt>, Memory>
+    ensures { IfOk result (λ made. made ≡ spec.short_text (Some value.now)) }
 {
-    let Some(value) = text_value(alloc, text)? else {
-        return Ok(None);
-    };
-    let Ok(value) = str::from_utf8(value.as_slice()) else {
+    let Ok(value) = str::from_utf8(value) else {
         return Ok(None);
     };
     match Txt::new(alloc, value) {
@@ -79,9 +75,21 @@ fn value_of(alloc: Global, text: &[u8]) -> Result<Option<Txt>, Memory>
     }
 }
 
+// What a text in quotes says.
+fn value_of(alloc: Global, text: &[u8]) -> Result<Option<Txt>, Memory>
+    ensures { IfOk result (λ value. value ≡ spec.value_of_text text.now) }
+{
+    match text_value(alloc, text)? {
+        Some(value) => short_text(alloc, value.as_slice()),
+        None => Ok(None),
+    }
+}
+
 // The number that the word is.
-fn number_of(seen: &Seen) -> Option<TreeExpr> {
-    let value = number_value(seen.text)?;
+fn number_of(seen: &Seen) -> Option<TreeExpr>
+    ensures { result ≡ spec.number_of seen.now }
+{
+    let value = number_value(seen.text.as_slice())?;
     Some(TreeExpr {
         place: seen.place,
         form: TreeForm::Number(value),
@@ -99,7 +107,7 @@ fn literal_of(alloc: Global, seen: &Seen) -> Result<Option<TreeExpr>, Memory>
     if !is_kind(TokenKind::Text, seen.kind) {
         return Ok(None);
     }
-    let Some(value) = value_of(alloc, seen.text)? else {
+    let Some(value) = value_of(alloc, seen.text.as_slice())? else {
         return Ok(None);
     };
     Ok(Some(TreeExpr {
@@ -110,7 +118,7 @@ fn literal_of(alloc: Global, seen: &Seen) -> Result<Option<TreeExpr>, Memory>
 
 // A number or a text.
 #[tactic(auto, unfolding(crate::specs::Steps::take_as))]
-fn literal<'a, 'b>(alloc: Global, words: &'b [Seen<'a>]) -> Reading<'a, 'b, TreeExpr>
+fn literal(alloc: Global, words: &[Seen]) -> Reading<'_, TreeExpr>
     ensures { Gives result (take_as spec.literal_of words.now) }
 {
     let [first, rest @ ..] = words else {
@@ -125,14 +133,14 @@ fn begins_name(words: &[Seen]) -> bool
     ensures { result ≡ begins is_named words.now }
 {
     match words {
-        [first, ..] => is_kind(TokenKind::Name, first.kind) && is_name(first.text),
+        [first, ..] => is_kind(TokenKind::Name, first.kind) && is_name(first.text.as_slice()),
         [] => false,
     }
 }
 
 /// A factor that opens nothing: a column, a number or a text.
 #[tactic(auto, unfolding(crate::specs::Expressions::simple_at))]
-pub fn simple<'a, 'b>(alloc: Global, words: &'b [Seen<'a>]) -> Reading<'a, 'b, TreeExpr>
+pub fn simple(alloc: Global, words: &[Seen]) -> Reading<'_, TreeExpr>
     ensures { Gives result (spec.simple_at words.now) }
 {
     if !begins_name(words) {

@@ -1,7 +1,7 @@
 //! Reads conditions.
-ghost use Rattle.std.specs.Prelude.{◌≡◌, ◌++◌, codes};
-ghost use Rattle.tiql_read.specs.Outcomes.{Gives};
-ghost use Rattle.tiql_read.specs.Steps.{◌>>=◌, begins, take_as, many_at, next_at, is_key};
+ghost use Rattle.std.specs.Prelude.{◌≡◌, codes};
+ghost use Rattle.tiql_read.specs.Outcomes.{Gives, with_front};
+ghost use Rattle.tiql_read.specs.Steps.{begins, take_as, many_at, next_at, is_key};
 ghost use Rattle.tiql_read.specs.Expressions.{expression_at};
 ghost use Rattle.tiql_read.specs.Conditions as spec;
 
@@ -14,7 +14,7 @@ use tiql_tree::{TreeCmp, TreeCond};
 
 /// A condition, in which so many more signs and words may open something.
 #[tactic(auto, unfolding(crate::specs::Conditions::condition_at))]
-pub fn condition<'a, 'b>(alloc: Global, room: u32, words: &'b [Seen<'a>]) -> Reading<'a, 'b, TreeCond>
+pub fn condition(alloc: Global, room: u32, words: &[Seen]) -> Reading<'_, TreeCond>
     ensures { Gives result (spec.condition_at room words.now) }
 {
     alternatives(alloc, room, words)
@@ -55,7 +55,7 @@ fn cmp_of(seen: &Seen) -> Option<TreeCmp>
 
 // The sign of a comparison.
 #[tactic(auto, unfolding(crate::specs::Steps::take_as))]
-fn cmp<'a, 'b>(words: &'b [Seen<'a>]) -> Reading<'a, 'b, TreeCmp>
+fn cmp(words: &[Seen]) -> Reading<'_, TreeCmp>
     ensures { Gives result (take_as spec.cmp_of words.now) }
 {
     let [first, rest @ ..] = words else {
@@ -66,7 +66,7 @@ fn cmp<'a, 'b>(words: &'b [Seen<'a>]) -> Reading<'a, 'b, TreeCmp>
 
 // Two expressions, compared.
 #[tactic(auto, unfolding(crate::specs::Conditions::compare_by))]
-fn compared<'a, 'b>(alloc: Global, room: u32, words: &'b [Seen<'a>]) -> Reading<'a, 'b, TreeCond>
+fn compared(alloc: Global, room: u32, words: &[Seen]) -> Reading<'_, TreeCond>
     ensures { Gives result (spec.compare_by (expression_at room) words.now) }
 {
     let (one, rest) = expression(alloc, room, words)?;
@@ -77,7 +77,7 @@ fn compared<'a, 'b>(alloc: Global, room: u32, words: &'b [Seen<'a>]) -> Reading<
 
 // Parts with OR between them.
 #[cycle(hold)]
-fn alternatives<'a, 'b>(alloc: Global, room: u32, words: &'b [Seen<'a>]) -> Reading<'a, 'b, TreeCond>
+fn alternatives(alloc: Global, room: u32, words: &[Seen]) -> Reading<'_, TreeCond>
     ensures { Gives result (spec.cond_by (spec.unit_at room) words.now) }
 {
     let (first, rest) = together(alloc, room, words)?;
@@ -92,21 +92,20 @@ fn alternatives<'a, 'b>(alloc: Global, room: u32, words: &'b [Seen<'a>]) -> Read
 
 // The parts so far, and all parts behind OR that follow.
 #[cycle(hold)]
-fn more_alternatives<'a, 'b>(
+fn more_alternatives(
     alloc: Global,
     room: u32,
     parts: List<TreeCond>,
-    words: &'b [Seen<'a>],
-) -> Reading<'a, 'b, List<TreeCond>>
-    ensures { Gives result (many_at (is_key (codes "OR")) (next_at (is_key (codes "OR")) (spec.and_by (spec.unit_at room))) words.now
-        >>= λ more. Ok (parts ++ more.0, more.1)) }
+    words: &[Seen],
+) -> Reading<'_, List<TreeCond>>
+    ensures { Gives result (with_front parts (many_at (is_key (codes "OR")) (next_at (is_key (codes "OR")) (spec.and_by (spec.unit_at room))) words.now)) }
 {
     let mut parts = parts;
     let mut rest = words;
     // A part has a word, so there are no more parts than words.
     for _ in 0..words.len() {
         let Some(behind) = after_key(rest, b"OR") else {
-            break;
+            return Ok((parts, rest));
         };
         let (part, behind) = together(alloc, room, behind)?;
         parts.push(part)?;
@@ -117,7 +116,7 @@ fn more_alternatives<'a, 'b>(
 
 // Parts with AND between them.
 #[cycle(hold)]
-fn together<'a, 'b>(alloc: Global, room: u32, words: &'b [Seen<'a>]) -> Reading<'a, 'b, TreeCond>
+fn together(alloc: Global, room: u32, words: &[Seen]) -> Reading<'_, TreeCond>
     ensures { Gives result (spec.and_by (spec.unit_at room) words.now) }
 {
     let (first, rest) = unit(alloc, room, words)?;
@@ -132,21 +131,20 @@ fn together<'a, 'b>(alloc: Global, room: u32, words: &'b [Seen<'a>]) -> Reading<
 
 // The parts so far, and all parts behind AND that follow.
 #[cycle(hold)]
-fn more_together<'a, 'b>(
+fn more_together(
     alloc: Global,
     room: u32,
     parts: List<TreeCond>,
-    words: &'b [Seen<'a>],
-) -> Reading<'a, 'b, List<TreeCond>>
-    ensures { Gives result (many_at (is_key (codes "AND")) (next_at (is_key (codes "AND")) (spec.unit_at room)) words.now
-        >>= λ more. Ok (parts ++ more.0, more.1)) }
+    words: &[Seen],
+) -> Reading<'_, List<TreeCond>>
+    ensures { Gives result (with_front parts (many_at (is_key (codes "AND")) (next_at (is_key (codes "AND")) (spec.unit_at room)) words.now)) }
 {
     let mut parts = parts;
     let mut rest = words;
     // A part has a word, so there are no more parts than words.
     for _ in 0..words.len() {
         let Some(behind) = after_key(rest, b"AND") else {
-            break;
+            return Ok((parts, rest));
         };
         let (part, behind) = unit(alloc, room, behind)?;
         parts.push(part)?;
@@ -157,7 +155,7 @@ fn more_together<'a, 'b>(
 
 // A part of a condition.
 #[cycle(hold)]
-fn unit<'a, 'b>(alloc: Global, room: u32, words: &'b [Seen<'a>]) -> Reading<'a, 'b, TreeCond>
+fn unit(alloc: Global, room: u32, words: &[Seen]) -> Reading<'_, TreeCond>
     ensures { Gives result (spec.unit_at room words.now) }
 {
     if !begins_opening(words) {
@@ -171,7 +169,7 @@ fn unit<'a, 'b>(alloc: Global, room: u32, words: &'b [Seen<'a>]) -> Reading<'a, 
 
 // A part that begins with a word which opens something, and in which so many more may.
 #[cycle(hold)]
-fn opened<'a, 'b>(alloc: Global, room: u32, words: &'b [Seen<'a>]) -> Reading<'a, 'b, TreeCond>
+fn opened(alloc: Global, room: u32, words: &[Seen]) -> Reading<'_, TreeCond>
     ensures { Gives result (spec.enclosed_by (spec.unit_at room) words.now) }
 {
     if begins_key(words, b"NOT") {

@@ -1,7 +1,7 @@
 //! Reads declarations.
-ghost use Rattle.std.specs.Prelude.{◌≡◌, ◌++◌, codes};
-ghost use Rattle.tiql_read.specs.Outcomes.{Gives};
-ghost use Rattle.tiql_read.specs.Steps.{◌>>=◌, take_as, many_at, is_key};
+ghost use Rattle.std.specs.Prelude.{◌≡◌, codes};
+ghost use Rattle.tiql_read.specs.Outcomes.{Gives, with_front};
+ghost use Rattle.tiql_read.specs.Steps.{take_as, many_at, is_key};
 ghost use Rattle.tiql_read.specs.Queries as spec;
 
 use crate::condition::condition;
@@ -33,7 +33,7 @@ fn type_of(seen: &Seen) -> Option<bool>
 
 // The type of a column.
 #[tactic(auto, unfolding(crate::specs::Steps::take_as))]
-fn column_type<'a, 'b>(words: &'b [Seen<'a>]) -> Reading<'a, 'b, bool>
+fn column_type(words: &[Seen]) -> Reading<'_, bool>
     ensures { Gives result (take_as spec.type_of words.now) }
 {
     let [first, rest @ ..] = words else {
@@ -48,7 +48,7 @@ impl Part for TreeColumn {
     ghost reading = { column_at };
 
     #[tactic(auto, unfolding(crate::specs::Queries::column_at))]
-    fn read<'a, 'b>(alloc: Global, words: &'b [Seen<'a>]) -> Reading<'a, 'b, TreeColumn> {
+    fn read(alloc: Global, words: &[Seen]) -> Reading<'_, TreeColumn> {
         let (name, rest) = name(alloc, words)?;
         let (text, rest) = column_type(rest)?;
         Ok((TreeColumn { name, text }, rest))
@@ -60,14 +60,14 @@ impl Part for Spot {
 
     ghost reading = { spot_at };
 
-    fn read<'a, 'b>(alloc: Global, words: &'b [Seen<'a>]) -> Reading<'a, 'b, Spot> {
+    fn read(alloc: Global, words: &[Seen]) -> Reading<'_, Spot> {
         name(alloc, words)
     }
 }
 
 // The names of a KEY, where KEY stands here.
 #[tactic(auto, unfolding(crate::specs::Queries::key_at))]
-fn key_names<'a, 'b>(alloc: Global, words: &'b [Seen<'a>]) -> Reading<'a, 'b, List<Spot>>
+fn key_names(alloc: Global, words: &[Seen]) -> Reading<'_, List<Spot>>
     ensures { Gives result (spec.key_at words.now) }
 {
     if !begins_key(words, b"KEY") {
@@ -82,7 +82,7 @@ fn key_names<'a, 'b>(alloc: Global, words: &'b [Seen<'a>]) -> Reading<'a, 'b, Li
 
 // A table.
 #[tactic(auto, unfolding(crate::specs::Queries::table_at))]
-fn table<'a, 'b>(alloc: Global, words: &'b [Seen<'a>]) -> Reading<'a, 'b, TreeTable>
+fn table(alloc: Global, words: &[Seen]) -> Reading<'_, TreeTable>
     ensures { Gives result (spec.table_at words.now) }
 {
     let rest = key(words, b"TABLE")?;
@@ -101,7 +101,7 @@ impl Part for TreeBound {
     ghost reading = { bound_at };
 
     #[tactic(auto, unfolding(crate::specs::Queries::bound_at))]
-    fn read<'a, 'b>(alloc: Global, words: &'b [Seen<'a>]) -> Reading<'a, 'b, TreeBound> {
+    fn read(alloc: Global, words: &[Seen]) -> Reading<'_, TreeBound> {
         let (name, rest) = name(alloc, words)?;
         let rest = key(rest, b"IN")?;
         let (lo, rest) = expression(alloc, MOST_NESTED, rest)?;
@@ -113,7 +113,7 @@ impl Part for TreeBound {
 
 // The bounds behind SET, where SET stands here.
 #[tactic(auto, unfolding(crate::specs::Queries::bounds_at))]
-fn bounds<'a, 'b>(alloc: Global, words: &'b [Seen<'a>]) -> Reading<'a, 'b, List<TreeBound>>
+fn bounds(alloc: Global, words: &[Seen]) -> Reading<'_, List<TreeBound>>
     ensures { Gives result (spec.bounds_at words.now) }
 {
     if !begins_key(words, b"SET") {
@@ -125,7 +125,7 @@ fn bounds<'a, 'b>(alloc: Global, words: &'b [Seen<'a>]) -> Reading<'a, 'b, List<
 
 // The place of DROP, where DROP stands here.
 #[tactic(auto, unfolding(crate::specs::Queries::drop_at))]
-fn dropped<'a, 'b>(words: &'b [Seen<'a>]) -> Reading<'a, 'b, Option<Place>>
+fn dropped(words: &[Seen]) -> Reading<'_, Option<Place>>
     ensures { Gives result (spec.drop_at words.now) }
 {
     if !begins_key(words, b"DROP") {
@@ -137,7 +137,7 @@ fn dropped<'a, 'b>(words: &'b [Seen<'a>]) -> Reading<'a, 'b, Option<Place>>
 
 // A hypothetical table.
 #[tactic(auto, unfolding(crate::specs::Queries::hypo_at))]
-fn hypo<'a, 'b>(alloc: Global, words: &'b [Seen<'a>]) -> Reading<'a, 'b, TreeHypo>
+fn hypo(alloc: Global, words: &[Seen]) -> Reading<'_, TreeHypo>
     ensures { Gives result (spec.hypo_at words.now) }
 {
     let rest = key(words, b"HYPO")?;
@@ -160,7 +160,7 @@ fn hypo<'a, 'b>(alloc: Global, words: &'b [Seen<'a>]) -> Reading<'a, 'b, TreeHyp
 
 // A select behind UNION ALL.
 #[tactic(auto, unfolding(crate::specs::Queries::arm_at))]
-fn arm<'a, 'b>(alloc: Global, words: &'b [Seen<'a>]) -> Reading<'a, 'b, TreeSelect>
+fn arm(alloc: Global, words: &[Seen]) -> Reading<'_, TreeSelect>
     ensures { Gives result (spec.arm_at words.now) }
 {
     let rest = key(words, b"UNION")?;
@@ -169,15 +169,15 @@ fn arm<'a, 'b>(alloc: Global, words: &'b [Seen<'a>]) -> Reading<'a, 'b, TreeSele
 }
 
 // The arms so far, and all that follow behind UNION ALL.
-fn more_arms<'a, 'b>(alloc: Global, arms: List<TreeSelect>, words: &'b [Seen<'a>]) -> Reading<'a, 'b, List<TreeSelect>>
-    ensures { Gives result (many_at (is_key (codes "UNION")) spec.arm_at words.now >>= λ more. Ok (arms ++ more.0, more.1)) }
+fn more_arms(alloc: Global, arms: List<TreeSelect>, words: &[Seen]) -> Reading<'_, List<TreeSelect>>
+    ensures { Gives result (with_front arms (many_at (is_key (codes "UNION")) spec.arm_at words.now)) }
 {
     let mut arms = arms;
     let mut rest = words;
     // An arm has a word, so there are no more arms than words.
     for _ in 0..words.len() {
         if !begins_key(rest, b"UNION") {
-            break;
+            return Ok((arms, rest));
         }
         let (select, behind) = arm(alloc, rest)?;
         arms.push(select)?;
@@ -188,7 +188,7 @@ fn more_arms<'a, 'b>(alloc: Global, arms: List<TreeSelect>, words: &'b [Seen<'a>
 
 // A view.
 #[tactic(auto, unfolding(crate::specs::Queries::view_at))]
-fn view<'a, 'b>(alloc: Global, words: &'b [Seen<'a>]) -> Reading<'a, 'b, TreeView>
+fn view(alloc: Global, words: &[Seen]) -> Reading<'_, TreeView>
     ensures { Gives result (spec.view_at words.now) }
 {
     let rest = key(words, b"VIEW")?;
@@ -218,7 +218,7 @@ fn for_all(seen: &Seen) -> Option<bool>
 
 // ALL or SOME.
 #[tactic(auto, unfolding(crate::specs::Steps::take_as))]
-fn all_or_some<'a, 'b>(words: &'b [Seen<'a>]) -> Reading<'a, 'b, bool>
+fn all_or_some(words: &[Seen]) -> Reading<'_, bool>
     ensures { Gives result (take_as spec.for_all words.now) }
 {
     let [first, rest @ ..] = words else {
@@ -239,7 +239,7 @@ fn require_of(all: bool, name: Spot, cond: TreeCond) -> TreeRequire
 
 // What must hold of all rows or of some row.
 #[tactic(auto, unfolding(crate::specs::Queries::have_at))]
-fn have<'a, 'b>(alloc: Global, words: &'b [Seen<'a>]) -> Reading<'a, 'b, TreeRequire>
+fn have(alloc: Global, words: &[Seen]) -> Reading<'_, TreeRequire>
     ensures { Gives result (spec.have_at words.now) }
 {
     let (all, rest) = all_or_some(words)?;
@@ -252,7 +252,7 @@ fn have<'a, 'b>(alloc: Global, words: &'b [Seen<'a>]) -> Reading<'a, 'b, TreeReq
 
 // That there is no row.
 #[tactic(auto, unfolding(crate::specs::Queries::none_at))]
-fn no_row<'a, 'b>(alloc: Global, words: &'b [Seen<'a>]) -> Reading<'a, 'b, TreeRequire>
+fn no_row(alloc: Global, words: &[Seen]) -> Reading<'_, TreeRequire>
     ensures { Gives result (spec.none_at words.now) }
 {
     let rest = key(words, b"NONE")?;
@@ -263,7 +263,7 @@ fn no_row<'a, 'b>(alloc: Global, words: &'b [Seen<'a>]) -> Reading<'a, 'b, TreeR
 
 // A requirement.
 #[tactic(auto, unfolding(crate::specs::Queries::require_at))]
-fn require<'a, 'b>(alloc: Global, words: &'b [Seen<'a>]) -> Reading<'a, 'b, TreeRequire>
+fn require(alloc: Global, words: &[Seen]) -> Reading<'_, TreeRequire>
     ensures { Gives result (spec.require_at words.now) }
 {
     let rest = key(words, b"REQUIRE")?;
@@ -276,7 +276,7 @@ fn require<'a, 'b>(alloc: Global, words: &'b [Seen<'a>]) -> Reading<'a, 'b, Tree
 
 /// A declaration.
 #[tactic(auto, unfolding(crate::specs::Queries::decl_at))]
-pub fn declaration<'a, 'b>(alloc: Global, words: &'b [Seen<'a>]) -> Reading<'a, 'b, Decl>
+pub fn declaration(alloc: Global, words: &[Seen]) -> Reading<'_, Decl>
     ensures { Gives result (spec.decl_at words.now) }
 {
     if begins_key(words, b"TABLE") {

@@ -1,7 +1,7 @@
 //! Reads expressions.
-ghost use Rattle.std.specs.Prelude.{◌≡◌, ◌++◌, codes};
-ghost use Rattle.tiql_read.specs.Outcomes.{Gives};
-ghost use Rattle.tiql_read.specs.Steps.{◌>>=◌, begins, take_as, many_at, next_at, is_sign};
+ghost use Rattle.std.specs.Prelude.{◌≡◌, codes};
+ghost use Rattle.tiql_read.specs.Outcomes.{Gives, with_front};
+ghost use Rattle.tiql_read.specs.Steps.{begins, take_as, many_at, next_at, is_sign};
 ghost use Rattle.tiql_read.specs.Expressions as spec;
 
 use crate::column::simple;
@@ -16,7 +16,7 @@ pub const MOST_NESTED: u32 = 64;
 
 /// An expression, in which so many more signs and words may open something.
 #[tactic(auto, unfolding(crate::specs::Expressions::expression_at))]
-pub fn expression<'a, 'b>(alloc: Global, room: u32, words: &'b [Seen<'a>]) -> Reading<'a, 'b, TreeExpr>
+pub fn expression(alloc: Global, room: u32, words: &[Seen]) -> Reading<'_, TreeExpr>
     ensures { Gives result (spec.expression_at room words.now) }
 {
     sum(alloc, room, words)
@@ -62,7 +62,7 @@ fn minus_of(seen: &Seen) -> Option<bool>
 
 // A plus or minus sign.
 #[tactic(auto, unfolding(crate::specs::Steps::take_as))]
-fn minus<'a, 'b>(words: &'b [Seen<'a>]) -> Reading<'a, 'b, bool>
+fn minus(words: &[Seen]) -> Reading<'_, bool>
     ensures { Gives result (take_as spec.minus_of words.now) }
 {
     let [first, rest @ ..] = words else {
@@ -73,7 +73,7 @@ fn minus<'a, 'b>(words: &'b [Seen<'a>]) -> Reading<'a, 'b, bool>
 
 // Terms, with signs between them.
 #[cycle(read)]
-fn sum<'a, 'b>(alloc: Global, room: u32, words: &'b [Seen<'a>]) -> Reading<'a, 'b, TreeExpr>
+fn sum(alloc: Global, room: u32, words: &[Seen]) -> Reading<'_, TreeExpr>
     ensures { Gives result (spec.expr_by (spec.factor_at room) words.now) }
 {
     let (first, rest) = term(alloc, room, words)?;
@@ -93,21 +93,20 @@ fn sum<'a, 'b>(alloc: Global, room: u32, words: &'b [Seen<'a>]) -> Reading<'a, '
 
 // The parts so far, and all terms with a sign before them that follow.
 #[cycle(read)]
-fn more_terms<'a, 'b>(
+fn more_terms(
     alloc: Global,
     room: u32,
     parts: List<TreeSigned>,
-    words: &'b [Seen<'a>],
-) -> Reading<'a, 'b, List<TreeSigned>>
-    ensures { Gives result (many_at spec.adds (spec.signed_by (spec.term_by (spec.factor_at room))) words.now
-        >>= λ more. Ok (parts ++ more.0, more.1)) }
+    words: &[Seen],
+) -> Reading<'_, List<TreeSigned>>
+    ensures { Gives result (with_front parts (many_at spec.adds (spec.signed_by (spec.term_by (spec.factor_at room))) words.now)) }
 {
     let mut parts = parts;
     let mut rest = words;
     // A part has a word, so there are no more parts than words.
     for _ in 0..words.len() {
         if !begins_adding(rest) {
-            break;
+            return Ok((parts, rest));
         }
         let (part, behind) = signed_term(alloc, room, rest)?;
         parts.push(part)?;
@@ -118,7 +117,7 @@ fn more_terms<'a, 'b>(
 
 // A term with the sign before it.
 #[cycle(read)]
-fn signed_term<'a, 'b>(alloc: Global, room: u32, words: &'b [Seen<'a>]) -> Reading<'a, 'b, TreeSigned>
+fn signed_term(alloc: Global, room: u32, words: &[Seen]) -> Reading<'_, TreeSigned>
     ensures { Gives result (spec.signed_by (spec.term_by (spec.factor_at room)) words.now) }
 {
     let (minus, rest) = minus(words)?;
@@ -128,7 +127,7 @@ fn signed_term<'a, 'b>(alloc: Global, room: u32, words: &'b [Seen<'a>]) -> Readi
 
 // Factors, with `*` between them.
 #[cycle(read)]
-fn term<'a, 'b>(alloc: Global, room: u32, words: &'b [Seen<'a>]) -> Reading<'a, 'b, TreeExpr>
+fn term(alloc: Global, room: u32, words: &[Seen]) -> Reading<'_, TreeExpr>
     ensures { Gives result (spec.term_by (spec.factor_at room) words.now) }
 {
     let (first, rest) = factor(alloc, room, words)?;
@@ -145,21 +144,20 @@ fn term<'a, 'b>(alloc: Global, room: u32, words: &'b [Seen<'a>]) -> Reading<'a, 
 
 // The parts so far, and all factors behind a `*` that follow.
 #[cycle(read)]
-fn more_factors<'a, 'b>(
+fn more_factors(
     alloc: Global,
     room: u32,
     parts: List<TreeExpr>,
-    words: &'b [Seen<'a>],
-) -> Reading<'a, 'b, List<TreeExpr>>
-    ensures { Gives result (many_at (is_sign (codes "*")) (next_at (is_sign (codes "*")) (spec.factor_at room)) words.now
-        >>= λ more. Ok (parts ++ more.0, more.1)) }
+    words: &[Seen],
+) -> Reading<'_, List<TreeExpr>>
+    ensures { Gives result (with_front parts (many_at (is_sign (codes "*")) (next_at (is_sign (codes "*")) (spec.factor_at room)) words.now)) }
 {
     let mut parts = parts;
     let mut rest = words;
     // A part has a word, so there are no more parts than words.
     for _ in 0..words.len() {
         let Some(behind) = after_sign(rest, b"*") else {
-            break;
+            return Ok((parts, rest));
         };
         let (part, behind) = factor(alloc, room, behind)?;
         parts.push(part)?;
@@ -170,7 +168,7 @@ fn more_factors<'a, 'b>(
 
 // A factor.
 #[cycle(read)]
-fn factor<'a, 'b>(alloc: Global, room: u32, words: &'b [Seen<'a>]) -> Reading<'a, 'b, TreeExpr>
+fn factor(alloc: Global, room: u32, words: &[Seen]) -> Reading<'_, TreeExpr>
     ensures { Gives result (spec.factor_at room words.now) }
 {
     if !begins_opening(words) {
@@ -184,7 +182,7 @@ fn factor<'a, 'b>(alloc: Global, room: u32, words: &'b [Seen<'a>]) -> Reading<'a
 
 // A factor that begins with a word which opens something, and in which so many more may.
 #[cycle(read)]
-fn opened<'a, 'b>(alloc: Global, room: u32, words: &'b [Seen<'a>]) -> Reading<'a, 'b, TreeExpr>
+fn opened(alloc: Global, room: u32, words: &[Seen]) -> Reading<'_, TreeExpr>
     ensures { Gives result (spec.opened_by (spec.factor_at room) words.now) }
 {
     if begins_sign(words, b"-") {

@@ -15,7 +15,7 @@ use tiql_tree::{Spot, TreeExpr, TreeItem, TreeValue};
 
 /// A name behind AS.
 #[tactic(auto, unfolding(crate::specs::Selects::alias_at))]
-pub fn alias<'a, 'b>(alloc: Global, words: &'b [Seen<'a>]) -> Reading<'a, 'b, Spot>
+pub fn alias(alloc: Global, words: &[Seen]) -> Reading<'_, Spot>
     ensures { Gives result (spec.alias_at words.now) }
 {
     let rest = key(words, b"AS")?;
@@ -24,7 +24,7 @@ pub fn alias<'a, 'b>(alloc: Global, words: &'b [Seen<'a>]) -> Reading<'a, 'b, Sp
 
 /// An expression in parentheses, of which the opening one counts among what opens something.
 #[tactic(auto, unfolding(crate::specs::Selects::grouped_at))]
-pub fn grouped<'a, 'b>(alloc: Global, words: &'b [Seen<'a>]) -> Reading<'a, 'b, TreeExpr>
+pub fn grouped(alloc: Global, words: &[Seen]) -> Reading<'_, TreeExpr>
     ensures { Gives result (spec.grouped_at words.now) }
 {
     let rest = sign(words, b"(")?;
@@ -51,7 +51,7 @@ fn aggregate_of(seen: &Seen) -> Option<(Aggregate, Place)>
 
 // The word of an aggregate of an expression.
 #[tactic(auto, unfolding(crate::specs::Steps::take_as))]
-fn aggregate_word<'a, 'b>(words: &'b [Seen<'a>]) -> Reading<'a, 'b, (Aggregate, Place)>
+fn aggregate_word(words: &[Seen]) -> Reading<'_, (Aggregate, Place)>
     ensures { Gives result (take_as spec.aggregate_of words.now) }
 {
     let [first, rest @ ..] = words else {
@@ -83,7 +83,7 @@ fn value_by(aggregate: Aggregate, part: TreeExpr) -> TreeValue
 
 // SUM, MIN or MAX of an expression.
 #[tactic(auto, unfolding(crate::specs::Selects::aggregate_at))]
-fn aggregate<'a, 'b>(alloc: Global, words: &'b [Seen<'a>]) -> Reading<'a, 'b, TreeItem>
+fn aggregate(alloc: Global, words: &[Seen]) -> Reading<'_, TreeItem>
     ensures { Gives result (spec.aggregate_at words.now) }
 {
     let ((aggregate, place), rest) = aggregate_word(words)?;
@@ -95,7 +95,7 @@ fn aggregate<'a, 'b>(alloc: Global, words: &'b [Seen<'a>]) -> Reading<'a, 'b, Tr
 
 // COUNT(*)
 #[tactic(auto, unfolding(crate::specs::Selects::count_at))]
-fn count<'a, 'b>(alloc: Global, words: &'b [Seen<'a>]) -> Reading<'a, 'b, TreeItem>
+fn count(alloc: Global, words: &[Seen]) -> Reading<'_, TreeItem>
     ensures { Gives result (spec.count_at words.now) }
 {
     let (place, rest) = mark_key(words, b"COUNT")?;
@@ -109,7 +109,7 @@ fn count<'a, 'b>(alloc: Global, words: &'b [Seen<'a>]) -> Reading<'a, 'b, TreeIt
 
 // The last name of the column that all of the words up to the rest are.
 #[tactic(auto, unfolding(crate::specs::Selects::lone_name))]
-fn lone_name<'a, 'b>(alloc: Global, words: &'b [Seen<'a>], rest: &'b [Seen<'a>]) -> Reading<'a, 'b, Spot>
+fn lone_name<'a>(alloc: Global, words: &'a [Seen], rest: &'a [Seen]) -> Reading<'a, Spot>
     ensures { Gives result (spec.lone_name words.now rest.now) }
 {
     match column_name(alloc, words) {
@@ -127,7 +127,7 @@ fn lone_name<'a, 'b>(alloc: Global, words: &'b [Seen<'a>], rest: &'b [Seen<'a>])
 
 // The name behind AS, or that of a column which stands alone.
 #[tactic(auto, unfolding(crate::specs::Selects::name_at))]
-fn item_name<'a, 'b>(alloc: Global, words: &'b [Seen<'a>], rest: &'b [Seen<'a>]) -> Reading<'a, 'b, Spot>
+fn item_name<'a>(alloc: Global, words: &'a [Seen], rest: &'a [Seen]) -> Reading<'a, Spot>
     ensures { Gives result (spec.name_at words.now rest.now) }
 {
     if begins_key(rest, b"AS") {
@@ -139,7 +139,7 @@ fn item_name<'a, 'b>(alloc: Global, words: &'b [Seen<'a>], rest: &'b [Seen<'a>])
 
 // A column, or an expression with a name.
 #[tactic(auto, unfolding(crate::specs::Selects::plain_at))]
-fn plain<'a, 'b>(alloc: Global, words: &'b [Seen<'a>]) -> Reading<'a, 'b, TreeItem>
+fn plain(alloc: Global, words: &[Seen]) -> Reading<'_, TreeItem>
     ensures { Gives result (spec.plain_at words.now) }
 {
     let (part, rest) = expression(alloc, MOST_NESTED, words)?;
@@ -155,7 +155,7 @@ impl Part for TreeItem {
     ghost reading = { item_at };
 
     #[tactic(auto, unfolding(crate::specs::Selects::item_at))]
-    fn read<'a, 'b>(alloc: Global, words: &'b [Seen<'a>]) -> Reading<'a, 'b, TreeItem> {
+    fn read(alloc: Global, words: &[Seen]) -> Reading<'_, TreeItem> {
         if begins_aggregate(words) {
             aggregate(alloc, words)
         } else if begins_key(words, b"COUNT") {

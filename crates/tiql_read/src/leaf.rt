@@ -21,7 +21,7 @@ pub fn is_kind(one: TokenKind, other: TokenKind) -> bool
 pub fn is_key(seen: &Seen, text: &[u8]) -> bool
     ensures { result ≡ spec.is_key text.now (spec.word_of seen.now) }
 {
-    is_kind(TokenKind::Keyword, seen.kind) && seen.text == text
+    is_kind(TokenKind::Keyword, seen.kind) && seen.text.as_slice() == text
 }
 
 /// Whether the word is this sign.
@@ -29,7 +29,7 @@ pub fn is_key(seen: &Seen, text: &[u8]) -> bool
 pub fn is_sign(seen: &Seen, text: &[u8]) -> bool
     ensures { result ≡ spec.is_sign text.now (spec.word_of seen.now) }
 {
-    is_kind(TokenKind::Sign, seen.kind) && seen.text == text
+    is_kind(TokenKind::Sign, seen.kind) && seen.text.as_slice() == text
 }
 
 /// Whether this reserved word stands here.
@@ -53,7 +53,7 @@ pub fn begins_sign(words: &[Seen], text: &[u8]) -> bool
 }
 
 /// The words behind this sign, where it stands here.
-pub fn after_sign<'a, 'b>(words: &'b [Seen<'a>], text: &[u8]) -> Option<&'b [Seen<'a>]>
+pub fn after_sign<'a>(words: &'a [Seen], text: &[u8]) -> Option<&'a [Seen]>
     ensures { option_map (λ rest. rest.now) result ≡ spec.behind (spec.is_sign text.now) words.now }
 {
     let [first, rest @ ..] = words else {
@@ -67,7 +67,7 @@ pub fn after_sign<'a, 'b>(words: &'b [Seen<'a>], text: &[u8]) -> Option<&'b [See
 }
 
 /// The words behind this reserved word, where it stands here.
-pub fn after_key<'a, 'b>(words: &'b [Seen<'a>], text: &[u8]) -> Option<&'b [Seen<'a>]>
+pub fn after_key<'a>(words: &'a [Seen], text: &[u8]) -> Option<&'a [Seen]>
     ensures { option_map (λ rest. rest.now) result ≡ spec.behind (spec.is_key text.now) words.now }
 {
     let [first, rest @ ..] = words else {
@@ -82,7 +82,7 @@ pub fn after_key<'a, 'b>(words: &'b [Seen<'a>], text: &[u8]) -> Option<&'b [Seen
 
 /// The words behind this reserved word, which must stand here.
 #[tactic(auto, unfolding(crate::specs::Steps::need))]
-pub fn key<'a, 'b>(words: &'b [Seen<'a>], text: &[u8]) -> Result<&'b [Seen<'a>], Stop>
+pub fn key<'a>(words: &'a [Seen], text: &[u8]) -> Result<&'a [Seen], Stop>
     ensures { Goes result (spec.need (spec.is_key text.now) words.now) }
 {
     match after_key(words, text) {
@@ -93,7 +93,7 @@ pub fn key<'a, 'b>(words: &'b [Seen<'a>], text: &[u8]) -> Result<&'b [Seen<'a>],
 
 /// The words behind this sign, which must stand here.
 #[tactic(auto, unfolding(crate::specs::Steps::need))]
-pub fn sign<'a, 'b>(words: &'b [Seen<'a>], text: &[u8]) -> Result<&'b [Seen<'a>], Stop>
+pub fn sign<'a>(words: &'a [Seen], text: &[u8]) -> Result<&'a [Seen], Stop>
     ensures { Goes result (spec.need (spec.is_sign text.now) words.now) }
 {
     match after_sign(words, text) {
@@ -103,7 +103,7 @@ pub fn sign<'a, 'b>(words: &'b [Seen<'a>], text: &[u8]) -> Result<&'b [Seen<'a>]
 }
 
 /// The value of the first of the words with the rest of them, or the first word is wrong.
-pub fn told<'a, 'b, T>(words: &'b [Seen<'a>], value: Option<T>, rest: &'b [Seen<'a>]) -> Reading<'a, 'b, T>
+pub fn told<'a, T>(words: &'a [Seen], value: Option<T>, rest: &'a [Seen]) -> Reading<'a, T>
     ensures { Gives result (spec.told words.now (spec.with_rest rest.now value)) }
 {
     match value {
@@ -114,7 +114,7 @@ pub fn told<'a, 'b, T>(words: &'b [Seen<'a>], value: Option<T>, rest: &'b [Seen<
 
 /// The place of this reserved word, which must stand here.
 #[tactic(auto, unfolding(crate::specs::Steps::mark_at, crate::specs::Steps::take_as))]
-pub fn mark_key<'a, 'b>(words: &'b [Seen<'a>], text: &[u8]) -> Reading<'a, 'b, Place>
+pub fn mark_key<'a>(words: &'a [Seen], text: &[u8]) -> Reading<'a, Place>
     ensures { Gives result (spec.mark_at (spec.is_key text.now) words.now) }
 {
     let [first, rest @ ..] = words else {
@@ -129,7 +129,7 @@ pub fn mark_key<'a, 'b>(words: &'b [Seen<'a>], text: &[u8]) -> Reading<'a, 'b, P
 
 /// The place of this sign, which must stand here.
 #[tactic(auto, unfolding(crate::specs::Steps::mark_at, crate::specs::Steps::take_as))]
-pub fn mark_sign<'a, 'b>(words: &'b [Seen<'a>], text: &[u8]) -> Reading<'a, 'b, Place>
+pub fn mark_sign<'a>(words: &'a [Seen], text: &[u8]) -> Reading<'a, Place>
     ensures { Gives result (spec.mark_at (spec.is_sign text.now) words.now) }
 {
     let [first, rest @ ..] = words else {
@@ -144,7 +144,7 @@ pub fn mark_sign<'a, 'b>(words: &'b [Seen<'a>], text: &[u8]) -> Reading<'a, 'b, 
 
 /// A name.
 #[tactic(auto, unfolding(crate::specs::Steps::spot_at, crate::specs::Steps::take_as))]
-pub fn name<'a, 'b>(alloc: Global, words: &'b [Seen<'a>]) -> Reading<'a, 'b, Spot>
+pub fn name(alloc: Global, words: &[Seen]) -> Reading<'_, Spot>
     ensures { Gives result (spec.spot_at words.now) }
 {
     let [first, rest @ ..] = words else {
@@ -161,7 +161,7 @@ fn spot_of(alloc: Global, seen: &Seen) -> Result<Option<Spot>, Memory>
     if !is_kind(TokenKind::Name, seen.kind) {
         return Ok(None);
     }
-    let Ok(text) = str::from_utf8(seen.text) else {
+    let Ok(text) = str::from_utf8(seen.text.as_slice()) else {
         return Ok(None);
     };
     match Name::new(alloc, text) {

@@ -1,7 +1,7 @@
 //! Reads parts with commas between them.
-ghost use Rattle.std.specs.Prelude.{◌≡◌, ◌++◌, codes};
-ghost use Rattle.tiql_read.specs.Outcomes.{Gives};
-ghost use Rattle.tiql_read.specs.Steps.{◌>>=◌, many_at, next_at, list_at, is_sign};
+ghost use Rattle.std.specs.Prelude.{codes};
+ghost use Rattle.tiql_read.specs.Outcomes.{Gives, with_front};
+ghost use Rattle.tiql_read.specs.Steps.{many_at, next_at, list_at, is_sign};
 
 use crate::leaf::after_sign;
 use crate::word::{Reading, Seen};
@@ -17,13 +17,13 @@ pub trait Part: Drop {
     ghost reading: { Words → Reading Self };
 
     /// Reads it.
-    fn read<'a, 'b>(alloc: Global, words: &'b [Seen<'a>]) -> Reading<'a, 'b, Self>
+    fn read(alloc: Global, words: &[Seen]) -> Reading<'_, Self>
         ensures { Gives result (reading words.now) };
 }
 
 /// One part or more, with commas between them.
 #[tactic(auto, unfolding(crate::specs::Steps::list_at))]
-pub fn list<'a, 'b, P: Part>(alloc: Global, words: &'b [Seen<'a>]) -> Reading<'a, 'b, List<P>>
+pub fn list<P: Part>(alloc: Global, words: &[Seen]) -> Reading<'_, List<P>>
     ensures { Gives result (list_at P.reading words.now) }
 {
     let (first, rest) = P::read(alloc, words)?;
@@ -33,16 +33,15 @@ pub fn list<'a, 'b, P: Part>(alloc: Global, words: &'b [Seen<'a>]) -> Reading<'a
 }
 
 // The parts so far, and all parts behind a comma that follow.
-fn more_parts<'a, 'b, P: Part>(alloc: Global, parts: List<P>, words: &'b [Seen<'a>]) -> Reading<'a, 'b, List<P>>
-    ensures { Gives result (many_at (is_sign (codes ",")) (next_at (is_sign (codes ",")) P.reading) words.now
-        >>= λ more. Ok (parts ++ more.0, more.1)) }
+fn more_parts<P: Part>(alloc: Global, parts: List<P>, words: &[Seen]) -> Reading<'_, List<P>>
+    ensures { Gives result (with_front parts (many_at (is_sign (codes ",")) (next_at (is_sign (codes ",")) P.reading) words.now)) }
 {
     let mut parts = parts;
     let mut rest = words;
     // A part has a word, so there are no more parts than words.
     for _ in 0..words.len() {
         let Some(behind) = after_sign(rest, b",") else {
-            break;
+            return Ok((parts, rest));
         };
         let (part, behind) = P::read(alloc, behind)?;
         parts.push(part)?;

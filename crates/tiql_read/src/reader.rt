@@ -1,9 +1,12 @@
 //! Reads the text of a query.
-ghost use Rattle.std.specs.Prelude.{◌≡◌, ◌-◌, ◌^◌, ◌<◌, length};
+ghost use Rattle.std.specs.Prelude.{◌≡◌, ◌-◌, ◌^◌, ◌<◌, ◌≤◌, length, map, All, IfOk};
+ghost use Rattle.tiql_tree.specs.Spelled.{words_of as words_spelled, places_of};
+ghost use Rattle.tiql_read.specs.Steps.{word_of};
+ghost use Rattle.tiql_read.specs.Stops.{stop_place, IsWithin};
 
 use crate::whole::query;
 use crate::word::{Seen, Stop};
-use base_kit::{Memory, Place};
+use base_kit::{List, Memory, Place};
 use std::alloc::{AllocError, Global};
 use thiserror::Error;
 use tiql_lex::{Lexed, Token, tokens};
@@ -33,12 +36,16 @@ impl From<Memory> for ReadFault {
 }
 
 // The words of the tokens.
-fn words_of<'a>(alloc: Global, bytes: &'a [u8], tokens: &[Token]) -> Result<Vec<Seen<'a>>, Memory> {
-    let mut words = Vec::new(alloc);
+fn words_of(alloc: Global, bytes: &[u8], tokens: &[Token]) -> Result<List<Seen>, Memory>
+    requires { All (IsWithin bytes.now) tokens.now }
+    ensures words { IfOk result (λ words. map word_of words ≡ words_spelled bytes.now tokens.now) }
+    ensures places { IfOk result (λ words. map (λ word. word.place) words ≡ places_of tokens.now) }
+{
+    let mut words = List::new(alloc);
     for token in tokens {
         words.push(Seen {
             kind: token.kind,
-            text: &bytes[token.from as usize..token.to as usize],
+            text: List::from_slice(alloc, &bytes[token.from as usize..token.to as usize])?,
             place: token.place,
         })?;
     }
@@ -46,7 +53,10 @@ fn words_of<'a>(alloc: Global, bytes: &'a [u8], tokens: &[Token]) -> Result<Vec<
 }
 
 // The place of the token from which on so many are left, or else where the tokens stop.
-fn place_of(lexed: &Lexed, left: usize) -> Place {
+fn place_of(lexed: &Lexed, left: usize) -> Place
+    requires { left ≤ length lexed.now.tokens }
+    ensures { result ≡ stop_place lexed.now left }
+{
     if left == 0 {
         return lexed.stop.unwrap_or(lexed.end);
     }

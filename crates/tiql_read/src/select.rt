@@ -16,7 +16,7 @@ use tiql_tree::{Spot, TreeCond, TreeRef, TreeSelect, TreeSource};
 
 // A name behind AS, where AS stands here.
 #[tactic(auto, unfolding(crate::specs::Selects::alias_if))]
-fn alias_if<'a, 'b>(alloc: Global, words: &'b [Seen<'a>]) -> Reading<'a, 'b, Option<Spot>>
+fn alias_if(alloc: Global, words: &[Seen]) -> Reading<'_, Option<Spot>>
     ensures { Gives result (spec.alias_if words.now) }
 {
     if !begins_key(words, b"AS") {
@@ -32,7 +32,7 @@ impl Part for TreeSource {
     ghost reading = { source_at };
 
     #[tactic(auto, unfolding(crate::specs::Selects::source_at))]
-    fn read<'a, 'b>(alloc: Global, words: &'b [Seen<'a>]) -> Reading<'a, 'b, TreeSource> {
+    fn read(alloc: Global, words: &[Seen]) -> Reading<'_, TreeSource> {
         let (relation, rest) = name(alloc, words)?;
         let (alias, rest) = alias_if(alloc, rest)?;
         Ok((source_of(alloc, relation, alias)?, rest))
@@ -58,14 +58,14 @@ impl Part for TreeRef {
 
     ghost reading = { ref_at };
 
-    fn read<'a, 'b>(alloc: Global, words: &'b [Seen<'a>]) -> Reading<'a, 'b, TreeRef> {
+    fn read(alloc: Global, words: &[Seen]) -> Reading<'_, TreeRef> {
         column(alloc, words)
     }
 }
 
 /// A condition behind WHERE, where WHERE stands here.
 #[tactic(auto, unfolding(crate::specs::Selects::filter_at))]
-pub fn filter<'a, 'b>(alloc: Global, words: &'b [Seen<'a>]) -> Reading<'a, 'b, Option<TreeCond>>
+pub fn filter(alloc: Global, words: &[Seen]) -> Reading<'_, Option<TreeCond>>
     ensures { Gives result (spec.filter_at words.now) }
 {
     if !begins_key(words, b"WHERE") {
@@ -78,7 +78,7 @@ pub fn filter<'a, 'b>(alloc: Global, words: &'b [Seen<'a>]) -> Reading<'a, 'b, O
 
 // The columns behind GROUP BY, where it stands here.
 #[tactic(auto, unfolding(crate::specs::Selects::group_at))]
-fn group<'a, 'b>(alloc: Global, words: &'b [Seen<'a>]) -> Reading<'a, 'b, List<TreeRef>>
+fn group(alloc: Global, words: &[Seen]) -> Reading<'_, List<TreeRef>>
     ensures { Gives result (spec.group_at words.now) }
 {
     if !begins_key(words, b"GROUP") {
@@ -91,7 +91,7 @@ fn group<'a, 'b>(alloc: Global, words: &'b [Seen<'a>]) -> Reading<'a, 'b, List<T
 
 // Whether DISTINCT stands here.
 #[tactic(auto, unfolding(crate::specs::Selects::distinct_at))]
-fn distinct<'a, 'b>(words: &'b [Seen<'a>]) -> Reading<'a, 'b, bool>
+fn distinct(words: &[Seen]) -> Reading<'_, bool>
     ensures { Gives result (spec.distinct_at words.now) }
 {
     if !begins_key(words, b"DISTINCT") {
@@ -103,7 +103,7 @@ fn distinct<'a, 'b>(words: &'b [Seen<'a>]) -> Reading<'a, 'b, bool>
 
 /// A select.
 #[tactic(auto, unfolding(crate::specs::Selects::select_at))]
-pub fn select<'a, 'b>(alloc: Global, words: &'b [Seen<'a>]) -> Reading<'a, 'b, TreeSelect>
+pub fn select(alloc: Global, words: &[Seen]) -> Reading<'_, TreeSelect>
     ensures { Gives result (spec.select_at words.now) }
 {
     let (place, rest) = mark_key(words, b"SELECT")?;

@@ -1,7 +1,7 @@
 //! Reads whole queries.
-ghost use Rattle.std.specs.Prelude.{◌≡◌, ◌++◌, codes};
+ghost use Rattle.std.specs.Prelude.{◌≡◌};
 ghost use Rattle.tiql_read.specs.Outcomes.{Gives, GivesAll};
-ghost use Rattle.tiql_read.specs.Steps.{◌>>=◌, begins, take_as, many_at};
+ghost use Rattle.tiql_read.specs.Steps.{begins, take_as, many_at};
 ghost use Rattle.tiql_read.specs.Queries as spec;
 
 use crate::declaration::declaration;
@@ -29,7 +29,7 @@ fn begins_declaration(words: &[Seen]) -> bool
 }
 
 // All declarations that follow.
-fn declarations<'a, 'b>(alloc: Global, words: &'b [Seen<'a>]) -> Reading<'a, 'b, List<Decl>>
+fn declarations(alloc: Global, words: &[Seen]) -> Reading<'_, List<Decl>>
     ensures { Gives result (many_at spec.declares spec.decl_at words.now) }
 {
     let mut decls = List::new(alloc);
@@ -37,7 +37,7 @@ fn declarations<'a, 'b>(alloc: Global, words: &'b [Seen<'a>]) -> Reading<'a, 'b,
     // A declaration has a word, so there are no more declarations than words.
     for _ in 0..words.len() {
         if !begins_declaration(rest) {
-            break;
+            return Ok((decls, rest));
         }
         let (decl, behind) = declaration(alloc, rest)?;
         decls.push(decl)?;
@@ -62,7 +62,7 @@ fn aim_of(seen: &Seen) -> Option<bool>
 
 // MAXIMIZE or MINIMIZE.
 #[tactic(auto, unfolding(crate::specs::Steps::take_as))]
-fn aim<'a, 'b>(words: &'b [Seen<'a>]) -> Reading<'a, 'b, bool>
+fn aim(words: &[Seen]) -> Reading<'_, bool>
     ensures { Gives result (take_as spec.aim_of words.now) }
 {
     let [first, rest @ ..] = words else {
@@ -73,7 +73,7 @@ fn aim<'a, 'b>(words: &'b [Seen<'a>]) -> Reading<'a, 'b, bool>
 
 // That any world will do.
 #[tactic(auto, unfolding(crate::specs::Queries::find_at))]
-fn find<'a, 'b>(words: &'b [Seen<'a>]) -> Reading<'a, 'b, TreeGoal>
+fn find(words: &[Seen]) -> Reading<'_, TreeGoal>
     ensures { Gives result (spec.find_at words.now) }
 {
     let rest = key(words, b"FIND")?;
@@ -83,7 +83,7 @@ fn find<'a, 'b>(words: &'b [Seen<'a>]) -> Reading<'a, 'b, TreeGoal>
 
 // The greatest or least sum.
 #[tactic(auto, unfolding(crate::specs::Queries::sum_goal_at))]
-fn sum_goal<'a, 'b>(alloc: Global, words: &'b [Seen<'a>]) -> Reading<'a, 'b, TreeGoal>
+fn sum_goal(alloc: Global, words: &[Seen]) -> Reading<'_, TreeGoal>
     ensures { Gives result (spec.sum_goal_at words.now) }
 {
     let (maximize, rest) = aim(words)?;
@@ -102,7 +102,7 @@ fn sum_goal<'a, 'b>(alloc: Global, words: &'b [Seen<'a>]) -> Reading<'a, 'b, Tre
 
 // The goal.
 #[tactic(auto, unfolding(crate::specs::Queries::goal_at))]
-fn goal<'a, 'b>(alloc: Global, words: &'b [Seen<'a>]) -> Reading<'a, 'b, TreeGoal>
+fn goal(alloc: Global, words: &[Seen]) -> Reading<'_, TreeGoal>
     ensures { Gives result (spec.goal_at words.now) }
 {
     if begins_key(words, b"FIND") {

@@ -1,16 +1,16 @@
 //! The words that a query is read from, and how reading stops.
 
-use base_kit::{Memory, Place};
+use base_kit::{List, Memory, Place};
 use std::alloc::AllocError;
 use tiql_lex::TokenKind;
 
 /// A token with its bytes.
-#[derive(Clone, Copy, Debug)]
-pub struct Seen<'a> {
+#[derive(Debug, Drop)]
+pub struct Seen {
     /// What it is.
     pub kind: TokenKind,
     /// Its bytes.
-    pub text: &'a [u8],
+    pub text: List<u8>,
     /// The place of its first byte.
     pub place: Place,
 }
@@ -36,7 +36,7 @@ pub enum Stop {
 }
 
 /// What was read, and the words behind it.
-pub type Reading<'a, 'b, T> = Result<(T, &'b [Seen<'a>]), Stop>;
+pub type Reading<'a, T> = Result<(T, &'a [Seen]), Stop>;
 
 impl From<Memory> for Stop {
     ghost use Rattle.std.specs.Prelude.{◌≡◌};
