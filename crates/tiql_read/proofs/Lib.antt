@@ -6,5 +6,6 @@ pub mod NameLists
 pub mod Spellings
 pub mod Queries
 pub mod FirstReading
-pub mod Leaves
+pub mod Nested
 pub mod Loops
+pub mod WordValues

@@ -61,13 +61,14 @@ count_at words =
     need (is_sign (codes "(")) place.1 >>= λ inner. need (is_sign (codes "*")) inner >>= λ star. need (is_sign (codes ")")) star >>= λ rest.
     alias_at rest >>= λ name. Ok (item_of place.0 values.Count name.0, name.1)
 
+-- the name, if these are the words behind it
+abbrev pub ends_at : Words → Reading Spot → Reading Spot
+ends_at rest (Ok name) = if length name.1 == length rest then Ok name else Err (length rest)
+ends_at rest (Err left) = Err (length rest)
+
 -- the last name of the column that all of the words up to these behind are
 unfoldable pub lone_name : Words → Words → Reading Spot
-lone_name words rest = ends_there (ref_name_at words)
-  where
-    ends_there : Reading Spot → Reading Spot
-    ends_there (Ok name) = if length name.1 == length rest then Ok name else Err (length rest)
-    ends_there (Err left) = Err (length rest)
+lone_name words rest = ends_at rest (ref_name_at words)
 
 -- the name behind AS, or that of a column which stands alone
 unfoldable pub name_at : Words → Words → Reading Spot

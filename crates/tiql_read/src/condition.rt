@@ -77,6 +77,7 @@ fn compared(alloc: Global, room: u32, words: &[Seen]) -> Reading<'_, TreeCond>
 
 // Parts with OR between them.
 #[cycle(hold)]
+#[tactic(auto, unfolding(crate::specs::Conditions::or_by))]
 fn alternatives(alloc: Global, room: u32, words: &[Seen]) -> Reading<'_, TreeCond>
     ensures { Gives result (spec.cond_by (spec.unit_at room) words.now) }
 {
@@ -116,6 +117,7 @@ fn more_alternatives(
 
 // Parts with AND between them.
 #[cycle(hold)]
+#[tactic(auto, unfolding(crate::specs::Conditions::and_by))]
 fn together(alloc: Global, room: u32, words: &[Seen]) -> Reading<'_, TreeCond>
     ensures { Gives result (spec.and_by (spec.unit_at room) words.now) }
 {
@@ -169,6 +171,7 @@ fn unit(alloc: Global, room: u32, words: &[Seen]) -> Reading<'_, TreeCond>
 
 // A part that begins with a word which opens something, and in which so many more may.
 #[cycle(hold)]
+#[tactic(auto, unfolding(crate::specs::Conditions::enclosed_by))]
 fn opened(alloc: Global, room: u32, words: &[Seen]) -> Reading<'_, TreeCond>
     ensures { Gives result (spec.enclosed_by (spec.unit_at room) words.now) }
 {

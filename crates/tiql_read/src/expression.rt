@@ -73,6 +73,7 @@ fn minus(words: &[Seen]) -> Reading<'_, bool>
 
 // Terms, with signs between them.
 #[cycle(read)]
+#[tactic(auto, unfolding(crate::specs::Expressions::sum_by))]
 fn sum(alloc: Global, room: u32, words: &[Seen]) -> Reading<'_, TreeExpr>
     ensures { Gives result (spec.expr_by (spec.factor_at room) words.now) }
 {
@@ -117,6 +118,7 @@ fn more_terms(
 
 // A term with the sign before it.
 #[cycle(read)]
+#[tactic(auto, unfolding(crate::specs::Expressions::signed_by))]
 fn signed_term(alloc: Global, room: u32, words: &[Seen]) -> Reading<'_, TreeSigned>
     ensures { Gives result (spec.signed_by (spec.term_by (spec.factor_at room)) words.now) }
 {
@@ -127,6 +129,7 @@ fn signed_term(alloc: Global, room: u32, words: &[Seen]) -> Reading<'_, TreeSign
 
 // Factors, with `*` between them.
 #[cycle(read)]
+#[tactic(auto, unfolding(crate::specs::Expressions::term_by))]
 fn term(alloc: Global, room: u32, words: &[Seen]) -> Reading<'_, TreeExpr>
     ensures { Gives result (spec.term_by (spec.factor_at room) words.now) }
 {
@@ -182,6 +185,7 @@ fn factor(alloc: Global, room: u32, words: &[Seen]) -> Reading<'_, TreeExpr>
 
 // A factor that begins with a word which opens something, and in which so many more may.
 #[cycle(read)]
+#[tactic(auto, unfolding(crate::specs::Expressions::opened_by))]
 fn opened(alloc: Global, room: u32, words: &[Seen]) -> Reading<'_, TreeExpr>
     ensures { Gives result (spec.opened_by (spec.factor_at room) words.now) }
 {

@@ -1,6 +1,7 @@
 -- what single words say
-use Rattle.std.proofs.Common.{◌≡◌, ℕ, ◌+◌, ◌-◌, ◌<◌, ◌≤◌, Bool, true, false, cond, ◌&&◌, List, [], ◌∷◌, ◌++◌, length, take, drop, get_or, nat_eq, refl, sym, ◌∙◌, ap, arith}
-use Rattle.std.specs.Prelude.{nat_le}
+use Rattle.std.proofs.Common.{◌≡◌, ℕ, ◌+◌, ◌-◌, ◌<◌, ◌≤◌, Bool, true, false, cond, ◌&&◌, List, [], ◌∷◌, ◌++◌, length, take, drop, get_or, nat_eq, refl, sym, ◌∙◌, ap, subst, arith}
+use Rattle.std.specs.Prelude.{nat_le, Result, IfOk}
+use Rattle.base_kit.specs.declared.memory.Memory.{Memory}
 use Rattle.std.specs.declared.option.Option.{Option}
 use Rattle.std.specs.declared.option.Option.TheVariants.{None, Some}
 use Rattle.std.proofs.lemmas.Bool.{false_from_ne_true, lt-leb}
@@ -73,3 +74,12 @@ pub short_enough : (value : List ℕ) → IsUtf8 value → length value ≤ 1000
 short_enough value utf8 short =
     let le : nat_le (length value) 1000 ≡ true = grind (arith, nat_tests) in
     rw (is_utf8-from_IsUtf8 value utf8, le) refl
+
+pub made_text : (made lent value : List ℕ) → made ≡ lent → lent ≡ value → IsUtf8 value → (1000 < length lent → ⊥) → Some made ≡ short_text (Some value)
+made_text made lent value is same utf8 short =
+    ap Some (is ∙ same) ∙ short_enough value utf8 (omega (arith, short, ap length same))
+
+-- the same of what a function gives
+pub text_said : (r : Result (Option (List ℕ)) Memory) (text value lent : List ℕ) → text ≡ quoted value → lent ≡ value → IfOk r (λ made. made ≡ short_text (Some lent)) → IfOk r (λ made. made ≡ value_of_text text)
+text_said r text value lent whole same h =
+    subst (λ (o : Option (List ℕ)). IfOk r (λ made. made ≡ o)) (ap (λ (v : List ℕ). short_text (Some v)) same ∙ sym (said text value whole)) h
