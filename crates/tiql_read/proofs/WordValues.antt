@@ -1,6 +1,6 @@
 -- what single words say
 use Rattle.std.proofs.Common.{◌≡◌, ℕ, ◌+◌, ◌-◌, ◌<◌, ◌≤◌, Bool, true, false, cond, ◌&&◌, List, [], ◌∷◌, ◌++◌, length, take, drop, get_or, nat_eq, refl, sym, ◌∙◌, ap, subst, arith}
-use Rattle.std.specs.Prelude.{nat_le, Result, IfOk}
+use Rattle.std.specs.Prelude.{nat_le, Result, Ok, Err, IfOk}
 use Rattle.base_kit.specs.declared.memory.Memory.{Memory}
 use Rattle.std.specs.declared.option.Option.{Option}
 use Rattle.std.specs.declared.option.Option.TheVariants.{None, Some}
@@ -74,6 +74,9 @@ pub short_enough : (value : List ℕ) → IsUtf8 value → length value ≤ 1000
 short_enough value utf8 short =
     let le : nat_le (length value) 1000 ≡ true = grind (arith, nat_tests) in
     rw (is_utf8-from_IsUtf8 value utf8, le) refl
+
+pub no_fault : {A E : Type 0} (a : A) (e : E) → ◌≡◌ {A = Result A E} (Ok a) (Err e) → ⊥
+no_fault a e same = cc
 
 pub made_text : (made lent value : List ℕ) → made ≡ lent → lent ≡ value → IsUtf8 value → (1000 < length lent → ⊥) → Some made ≡ short_text (Some value)
 made_text made lent value is same utf8 short =

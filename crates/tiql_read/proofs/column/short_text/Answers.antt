@@ -1,4 +1,4 @@
-use Rattle.tiql_read.proofs.WordValues.{not_utf8, made_text}
+use Rattle.tiql_read.proofs.WordValues.{not_utf8, made_text, no_fault}
 use Rattle.tiql_read.proofs.column.short_text.Goals as goal
 
 pub returns-in_default : goal.returns-in_default
@@ -6,4 +6,4 @@ returns-in_default c = not_utf8 c.args.value.now c.in_default.ensures.cases.0
 
 pub returns-in-Ok-new : goal.returns-in-Ok-new
 returns-in-Ok-new c =
-    let k : made_text = c.in-Ok-new.ensures.too_long.1 in made_text c.in-Ok-new.value c.in-Ok.value.now c.args.value.now c.in-Ok-new.ensures.value c.in-Ok.ensures.cases.0 c.in-Ok.ensures.cases.1 c.in-Ok-new.ensures.too_long.1
+    made_text c.in-Ok-new.value c.in-Ok.value.now c.args.value.now c.in-Ok-new.ensures.value c.in-Ok.ensures.cases.0 c.in-Ok.ensures.cases.1 (λ lt. no_fault _ _ (c.in-Ok-new.ensures.too_long.1 lt))
