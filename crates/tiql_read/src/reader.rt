@@ -1,6 +1,8 @@
 //! Reads the text of a query.
-ghost use Rattle.std.specs.Prelude.{◌≡◌, ◌-◌, ◌^◌, ◌<◌, ◌≤◌, length, map, All, IfOk};
-ghost use Rattle.tiql_tree.specs.Spelled.{words_of as words_spelled, places_of};
+ghost use Rattle.std.specs.Prelude.{◌≡◌, ◌≢◌, ◌-◌, ◌^◌, ◌<◌, ◌≤◌, length, map, All, IfOk};
+ghost use Rattle.base_kit.specs.declared.place.Place.{Place};
+ghost use Rattle.tiql_tree.specs.declared.tree.Tree.{Tree};
+ghost use Rattle.tiql_tree.specs.Spelled.{words_of as words_spelled, places_of, Spelled, IsStop};
 ghost use Rattle.tiql_read.specs.Steps.{word_of};
 ghost use Rattle.tiql_read.specs.Stops.{stop_place, IsWithin};
 
@@ -67,6 +69,9 @@ fn place_of(lexed: &Lexed, left: usize) -> Place
 /// The tree of a query's text, of fewer than 2^32 - 1 bytes (docs/LANGUAGE.md, "Grammar").
 pub fn read_query(alloc: Global, bytes: &[u8]) -> Result<Tree, ReadFault>
     requires { length bytes.now < 2 ^ 32 - 1 }
+    ensures tree { IfOk result (λ tree. Spelled bytes.now tree) }
+    ensures only { (tree : Tree) → Spelled bytes.now tree → result ≢ Err ReadFault.Memory → result ≡ Ok tree }
+    ensures stop { (place : Place) → result ≡ Err (ReadFault.Syntax place) → IsStop bytes.now place }
 {
     let lexed = tokens(alloc, bytes)?;
     let words = words_of(alloc, bytes, lexed.tokens.as_slice())?;
