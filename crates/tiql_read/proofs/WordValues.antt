@@ -1,15 +1,18 @@
 -- what single words say
-use Rattle.std.proofs.Common.{◌≡◌, ℕ, ◌+◌, ◌-◌, ◌<◌, ◌≤◌, Bool, true, false, cond, ◌&&◌, List, [], ◌∷◌, ◌++◌, length, take, drop, get_or, nat_eq, refl, sym, ◌∙◌, ap, subst, arith}
+use Rattle.std.proofs.Common.{◌≡◌, ℕ, ◌+◌, ◌-◌, ◌<◌, ◌≤◌, Bool, true, false, cond, not, ◌&&◌, List, [], ◌∷◌, ◌++◌, length, take, drop, get_or, nat_eq, refl, sym, ◌∙◌, ap, subst, arith}
 use Rattle.std.specs.Prelude.{nat_le, Result, Ok, Err, IfOk}
 use Rattle.base_kit.specs.declared.memory.Memory.{Memory}
 use Rattle.std.specs.declared.option.Option.{Option}
 use Rattle.std.specs.declared.option.Option.TheVariants.{None, Some}
-use Rattle.std.proofs.lemmas.Bool.{false_from_ne_true, lt-leb}
+use Rattle.std.proofs.lemmas.Bool.{and_parts, false_from_ne_true, false≢true, lt-leb}
 use Rattle.std.proofs.lemmas.Bool.Decides.{nat_tests}
 use Rattle.std.proofs.lemmas.List.{take_all}
-use Rattle.std.proofs.lemmas.Str.{IsUtf8-from_is_utf8, is_utf8-from_IsUtf8}
-use Rattle.std.specs.Str.{IsUtf8, is_utf8}
-use Rattle.base_kit.specs.Names.{is_name}
+use Rattle.std.proofs.lemmas.Str.{IsUtf8-from_ascii, IsUtf8-from_is_utf8, is_utf8-from_IsUtf8}
+use Rattle.std.proofs.lemmas.Str.Ascii.{IsAscii-nil, IsAscii-cons}
+use Rattle.std.specs.List.{list_all}
+use Rattle.std.specs.Str.{IsUtf8, IsAscii, is_utf8}
+use Rattle.base_kit.specs.Names.{starts_name, continues_name, is_word, is_name}
+use Rattle.base_kit.specs.Keywords.{is_keyword}
 use Rattle.tiql_lex.specs.declared.token.TokenKind.TheVariants as kinds
 use Rattle.tiql_lex.specs.Kinds.{doubled, quoted}
 use Rattle.tiql_lex.specs.Scan.{value_from}
@@ -18,6 +21,30 @@ use Rattle.tiql_tree.specs.declared.tree.Spot.{Spot}
 use Rattle.tiql_read.specs.declared.word.Seen.{Seen}
 use Rattle.tiql_read.specs.Steps.{is_kind, is_named, spot_of}
 use Rattle.tiql_read.specs.Expressions.{short_text, value_of_text}
+
+byte_ascii : (c : ℕ) → continues_name c ≡ true → c < 128
+byte_ascii c e = grind (arith, nat_tests)
+
+first_ascii : (c : ℕ) → starts_name c ≡ true → c < 128
+first_ascii c e = grind (arith, nat_tests)
+
+rest_ascii : (bytes : List ℕ) → list_all continues_name bytes ≡ true → IsAscii bytes
+rest_ascii [] e = IsAscii-nil
+rest_ascii (c ∷ cs) e = let both = and_parts (continues_name c) (list_all continues_name cs) e in IsAscii-cons c cs (byte_ascii c both.0) (rest_ascii cs both.1)
+
+name_utf8 : (bytes : List ℕ) → is_name bytes ≡ true → IsUtf8 bytes
+unfolding is_name
+name_utf8 bytes e = of_word bytes (and_parts (is_word bytes) (nat_le (length bytes) 64) (and_parts (is_word bytes && nat_le (length bytes) 64) (not (is_keyword bytes)) e).0).0
+  where
+    of_word : (word : List ℕ) → is_word word ≡ true → IsUtf8 word
+    of_word [] e = absurd (false≢true e)
+    of_word (c ∷ cs) e =
+        let both = and_parts (starts_name c) (list_all continues_name cs) e in
+        IsUtf8-from_ascii (c ∷ cs) (IsAscii-cons c cs (first_ascii c both.0) (rest_ascii cs both.1))
+
+-- bytes that are no UTF-8 are no name
+pub no_name : (bytes : List ℕ) → (IsUtf8 bytes → ⊥) → is_name bytes ≡ false
+no_name bytes none = false_from_ne_true (is_name bytes) (λ e. none (name_utf8 bytes e))
 
 -- a word whose bytes are no name
 pub no_spot : (seen : Seen) → is_name seen.text ≡ false → ◌≡◌ {A = Option Spot} None (spot_of seen)

@@ -1,7 +1,6 @@
 use Rattle.std.proofs.Common.{ap, sym, ◌∙◌}
 use Rattle.base_kit.specs.Names.{is_name}
-use Rattle.tiql_read.proofs.Digits.{no_name}
-use Rattle.tiql_read.proofs.WordValues.{no_spot}
+use Rattle.tiql_read.proofs.WordValues.{no_name, no_spot}
 use Rattle.tiql_read.proofs.leaf.spot_of.Goals as goal
 
 pub returns-in_default : goal.returns-in_default
