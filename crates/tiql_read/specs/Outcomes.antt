@@ -2,7 +2,7 @@
 use Rattle.std.specs.Prelude.{◌≡◌, ℕ, List, ◌++◌, Result, Ok, Err}
 use Rattle.std.specs.Borrow.{Bor}
 use Rattle.tiql_read.specs.declared.word.Stop.{Stop}
-use Rattle.tiql_read.specs.declared.word.Stop.TheVariants.{Wrong, Memory}
+use Rattle.tiql_read.specs.declared.word.Stop.TheVariants.{Wrong}
 use Rattle.tiql_read.specs.Steps.{Words, Reading}
 
 -- the same part, and the same words behind it

@@ -39,9 +39,7 @@ fn begins_opening(words: &[Seen]) -> bool
     ensures { result ≡ begins spec.opens words.now }
 {
     match words {
-        [first, ..] => {
-            is_sign(first, b"-") || is_sign(first, b"(") || is_key(first, b"ABS")
-        }
+        [first, ..] => { is_sign(first, b"-") || is_sign(first, b"(") || is_key(first, b"ABS") }
         [] => false,
     }
 }

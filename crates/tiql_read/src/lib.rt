@@ -1,4 +1,4 @@
-//! Reads first texts: the queries over one table of whole numbers.
+//! Reads the text of a query, and first texts: the queries over one table of whole numbers.
 #![tactic(auto)]
 
 mod column;
