@@ -1,14 +1,10 @@
 -- a reader behind another one
-use Rattle.std.proofs.Common.{◌≡◌, ℕ, ◌+◌, ◌-◌, ◌<◌, ◌≤◌, zero, suc, Bool, true, false, cond, List, [], ◌∷◌, ◌++◌, length, map, drop, take, codes, refl, sym, ◌∙◌, ap, subst, append_assoc, arith, Result, Ok, Err}
-use Rattle.std.proofs.lemmas.List.{append-nil, length-append, map-append}
-use Rattle.std.specs.declared.option.Option.{Option}
-use Rattle.std.specs.declared.option.Option.TheVariants.{None, Some}
-use Rattle.base_kit.specs.declared.place.Place.{Place}
+use Rattle.std.proofs.Common.{◌≡◌, ℕ, suc, Bool, false, List, [], ◌∷◌, ◌++◌, length, map, drop, refl, sym, ◌∙◌, ap, subst, append_assoc, Ok, Err}
 use Rattle.tiql_tree.specs.Words.{Word}
-use Rattle.tiql_tree.specs.Trees.{Places, place}
+use Rattle.tiql_tree.specs.Trees.{Places}
 use Rattle.tiql_read.specs.declared.word.Seen.{Seen}
-use Rattle.tiql_read.specs.Steps.{Words, Reading, word_of, ◌>>=◌, need, take_as, begins}
-use Rattle.tiql_read.proofs.Exact.{ws, ps, fixed, Fine, starts, none, Repaired, Stopped, Made, Exact, ws-append, length-ws, behind_ps, fixed-append, fine_front, fine_back, Halves, halves, Seam, seam, ok_value, ok_rest, err_left, ok_err, err_ok}
+use Rattle.tiql_read.specs.Steps.{Words, Reading, ◌>>=◌}
+use Rattle.tiql_read.proofs.Exact.{ws, ps, fixed, Fine, starts, Stopped, Made, Exact, ws-append, behind_ps, fixed-append, fine_front, fine_back, halves, seam, err_left, err_ok}
 
 bind_ok : {A B : Type 0} (q : Reading A) (a : A) (m : Words) (f : A × Words → Reading B) → q ≡ Ok (a, m) → (q >>= f) ≡ f (a, m)
 bind_ok q a m f e = ap (λ (y : Reading _). y >>= f) e
@@ -102,8 +98,8 @@ module _ {X A B D E : Type 0} {r1 : X → Words → Reading A} {r2 : X × A → 
       let l = two.whole (e, t1 e (ps (h.front ++ (h.back ++ u))) d.0) d.1 h.back u good.1 h.second (fine_back h.front h.back fine2) end in
       let places = behind_ps (h.front ++ (h.back ++ u)) h.front (h.back ++ u) (w1 d.0) refl h.first in
       let all : (r1 e (h.front ++ (h.back ++ u)) >>= λ y. r2 (e, y.0) y.1) ≡ Ok (t2 (e, t1 e (ps (h.front ++ (h.back ++ u))) d.0) (drop (length (w1 d.0)) (ps (h.front ++ (h.back ++ u)))) d.1, u) =
-          bind_ok (r1 e (h.front ++ (h.back ++ u))) (t1 e (ps (h.front ++ (h.back ++ u))) d.0) (h.back ++ u) (λ y. r2 (e, y.0) y.1) k
-          ∙ l ∙ ap (λ (y : Places). ok (t2 (e, t1 e (ps (h.front ++ (h.back ++ u))) d.0) y d.1)) (sym places) in
+      bind_ok (r1 e (h.front ++ (h.back ++ u))) (t1 e (ps (h.front ++ (h.back ++ u))) d.0) (h.back ++ u) (λ y. r2 (e, y.0) y.1) k
+      ∙ l ∙ ap (λ (y : Places). ok (t2 (e, t1 e (ps (h.front ++ (h.back ++ u))) d.0) y d.1)) (sym places) in
       subst (λ (y : Words). (r1 e y >>= λ z. r2 (e, z.0) z.1) ≡ Ok (t2 (e, t1 e (ps y) d.0) (drop (length (w1 d.0)) (ps y)) d.1, u)) (sym line) all
     where
       ok : B → Reading B

@@ -1,17 +1,9 @@
 -- comparisons are read exactly
-use Rattle.std.proofs.Common.{◌≡◌, ℕ, ◌+◌, ◌-◌, ◌<◌, ◌≤◌, zero, suc, Bool, true, false, cond, List, [], ◌∷◌, ◌++◌, length, map, drop, take, codes, refl, sym, ◌∙◌, ap, subst, append_assoc, arith, Result, Ok, Err}
-use Rattle.std.proofs.lemmas.List.{append-nil, length-append, map-append}
-use Rattle.std.specs.declared.option.Option.{Option}
-use Rattle.std.specs.declared.option.Option.TheVariants.{None, Some}
+use Rattle.std.proofs.Common.{◌≡◌, ℕ, ◌≤◌, false, List, [], ◌∷◌, ◌++◌, length, drop, codes, refl}
 use Rattle.base_kit.specs.declared.place.Place.{Place}
 use Rattle.tiql_tree.specs.Words.{Word}
-use Rattle.tiql_tree.specs.Trees.{Places, place}
-use Rattle.tiql_read.specs.declared.word.Seen.{Seen}
-use Rattle.tiql_read.specs.Steps.{Words, Reading, word_of, ◌>>=◌, need, take_as, begins}
-use Rattle.tiql_read.proofs.Exact.{ws, ps, fixed, Fine, starts, none, Repaired, Stopped, Made, Exact, ws-append, length-ws, behind_ps, fixed-append, fine_front, fine_back, Halves, halves, Seam, seam, ok_value, ok_rest, err_left, ok_err, err_ok}
-use Rattle.std.proofs.Common.{◌||◌, max}
-use Rattle.std.proofs.Math.Nat.{max-le}
-use Rattle.std.proofs.lemmas.List.{drop-drop}
+use Rattle.tiql_tree.specs.Trees.{Places}
+use Rattle.tiql_read.proofs.Exact.{Exact}
 use Rattle.tiql_tree.specs.declared.condition.TreeCmp.{TreeCmp}
 use Rattle.tiql_tree.specs.declared.condition.TreeCmp.TheVariants.{Eq, Ne, Lt, Le, Gt, Ge}
 use Rattle.tiql_tree.specs.declared.condition.TreeCond.{TreeCond}
@@ -28,7 +20,7 @@ use Rattle.tiql_read.specs.Conditions.{cmp_of, compare_by}
 use Rattle.tiql_read.proofs.Rules.{Takes, one}
 use Rattle.tiql_read.proofs.Chains.{bind}
 use Rattle.tiql_read.proofs.Branches.Either.{one_way, other_way}
-use Rattle.tiql_read.proofs.Branches.{Either, recast}
+use Rattle.tiql_read.proofs.Branches.{Either}
 use Rattle.tiql_read.proofs.Lists.{value, no_end}
 use Rattle.tiql_read.proofs.WordTests.{sign_needs, last_takes, or_takes, retake, either_key, either_value}
 use Rattle.tiql_read.proofs.Sums.{expr_ext}

@@ -1,18 +1,14 @@
 -- tables and hypothetical tables are read exactly
-use Rattle.std.proofs.Common.{◌≡◌, ℕ, ◌+◌, ◌-◌, ◌<◌, ◌≤◌, zero, suc, Bool, true, false, cond, List, [], ◌∷◌, ◌++◌, length, map, drop, take, codes, refl, sym, ◌∙◌, ap, subst, append_assoc, arith, Result, Ok, Err}
-use Rattle.std.proofs.lemmas.List.{append-nil, length-append, map-append}
+use Rattle.std.proofs.Common.{◌≡◌, ℕ, ◌+◌, ◌≤◌, Bool, true, false, cond, List, [], ◌∷◌, ◌++◌, length, drop, codes, refl, sym, ◌∙◌, ap, append_assoc, arith}
 use Rattle.std.specs.declared.option.Option.{Option}
 use Rattle.std.specs.declared.option.Option.TheVariants.{None, Some}
 use Rattle.base_kit.specs.declared.place.Place.{Place}
 use Rattle.tiql_tree.specs.Words.{Word}
 use Rattle.tiql_tree.specs.Trees.{Places, place}
-use Rattle.tiql_read.specs.declared.word.Seen.{Seen}
-use Rattle.tiql_read.specs.Steps.{Words, Reading, word_of, ◌>>=◌, need, take_as, begins}
-use Rattle.tiql_read.proofs.Exact.{ws, ps, fixed, Fine, starts, none, Repaired, Stopped, Made, Exact, ws-append, length-ws, behind_ps, fixed-append, fine_front, fine_back, Halves, halves, Seam, seam, ok_value, ok_rest, err_left, ok_err, err_ok}
-use Rattle.std.proofs.Common.{◌||◌, max}
+use Rattle.tiql_read.proofs.Exact.{starts, none, Exact}
+use Rattle.std.proofs.Common.{max}
 use Rattle.std.proofs.Math.Nat.{max-le}
 use Rattle.std.proofs.lemmas.List.{drop-drop}
-use Rattle.std.specs.List.{flat_map}
 use Rattle.tiql_tree.specs.declared.tree.Spot.{Spot}
 use Rattle.tiql_tree.specs.declared.tree.TreeColumn.{TreeColumn}
 use Rattle.tiql_tree.specs.declared.tree.TreeTable.{TreeTable}
@@ -23,22 +19,20 @@ use Rattle.tiql_tree.specs.declared.condition.TreeCond.{TreeCond}
 use Rattle.tiql_tree.specs.Words.{key, sign, named, Several, parts_of, with_between}
 use Rattle.tiql_tree.specs.Texts.{ExprText, CondText, ColumnText, TableText, BoundText, HypoText}
 use Rattle.tiql_tree.specs.Grammar.{comma, optional, in_parens, name_words, expr_words, column_words, table_words, bound_words, bounds_words, filter_words, hypo_words}
-use Rattle.tiql_tree.specs.Nesting.{deepest, expr_depth, bound_depth, bounds_depth, filter_depth, decl_depth}
+use Rattle.tiql_tree.specs.Nesting.{expr_depth, bound_depth, bounds_depth, filter_depth}
 use Rattle.tiql_tree.specs.Trees.{spot, laid, laid_if, expr_tree, column_tree, table_tree, bound_tree, filter_tree, hypo_tree}
-use Rattle.tiql_read.specs.Steps.{is_key, is_sign, mark_at, spot_at, list_at}
+use Rattle.tiql_read.specs.Steps.{is_key, is_sign, mark_at}
 use Rattle.tiql_read.specs.Expressions.{adds}
 use Rattle.tiql_read.specs.Queries.{type_of, column_at, key_at, table_at, bound_at, bounds_at, drop_at, hypo_at}
 use Rattle.tiql_read.proofs.Rules.{Takes, one, word}
 use Rattle.tiql_read.proofs.Chains.{bind}
-use Rattle.tiql_read.proofs.Branches.{recast, wider}
-use Rattle.tiql_read.proofs.Many.{many_ok}
-use Rattle.tiql_read.proofs.Lists.{or_else, or_first, or_second, or_both, value, maybe, maybe_ok, maybe_tree, mapped, retold, several_ok, several_tree, listed, followed, all_units, no_end}
+use Rattle.tiql_read.proofs.Branches.{recast}
+use Rattle.tiql_read.proofs.Lists.{or_else, or_first, or_second, maybe, maybe_ok, maybe_tree, mapped, retold, several_ok, several_tree, listed, followed, all_units, no_end}
 use Rattle.tiql_read.proofs.Depths.{deepest_all, deepest_le}
 use Rattle.tiql_read.proofs.WordTests.{sign_needs, key_needs, mark_takes, two_takes, retake}
 use Rattle.tiql_read.proofs.Leaves.{name_exact, place_drop}
-use Rattle.tiql_read.proofs.Sums.{anywhere, max_front, max_back, expr_ext}
+use Rattle.tiql_read.proofs.Sums.{max_front, max_back, expr_ext}
 use Rattle.tiql_read.proofs.Factors.{expression_exact}
-use Rattle.tiql_read.proofs.Units.{cond_ext}
 use Rattle.tiql_read.proofs.Items.{spot_drop}
 use Rattle.tiql_read.proofs.Selecting.{filter_ext, filter_exact}
 
@@ -204,7 +198,7 @@ unfolding to_bound bound_tree
 bound_trees p d =
     let lo_is : drop 1 (drop 1 p) ≡ drop 2 p = drop-drop 1 1 p in
     let hi_is : drop 1 (drop (length (expr_words d.1.0)) (drop 1 (drop 1 p))) ≡ drop (2 + length (expr_words d.1.0) + 1) p =
-        ap (λ (q : Places). drop 1 (drop (length (expr_words d.1.0)) q)) lo_is ∙ ap (drop 1) (drop-drop (length (expr_words d.1.0)) 2 p) ∙ drop-drop 1 (2 + length (expr_words d.1.0)) p in
+    ap (λ (q : Places). drop 1 (drop (length (expr_words d.1.0)) q)) lo_is ∙ ap (drop 1) (drop-drop (length (expr_words d.1.0)) 2 p) ∙ drop-drop 1 (2 + length (expr_words d.1.0)) p in
     ap (λ (q : Places). bound_of q (drop (2 + length (expr_words d.1.0) + 1) p)) (sym lo_is) ∙ ap (λ (q : Places). bound_of (drop 1 (drop 1 p)) q) (sym hi_is)
   where
     bound_of : Places → Places → TreeBound

@@ -1,11 +1,9 @@
 -- how deep the parts of a list lie
-use Rattle.std.proofs.Common.{◌≡◌, ℕ, ◌≤◌, zero, suc, max, List, [], ◌∷◌, map, refl, arith}
+use Rattle.std.proofs.Common.{ℕ, ◌≤◌, max, List, [], ◌∷◌, map, arith}
 use Rattle.std.proofs.Math.Nat.{le-max_left, le-max_right, max-le}
 use Rattle.std.specs.List.{fold}
-use Rattle.tiql_tree.specs.Words.{Several, parts_of}
 use Rattle.tiql_tree.specs.Nesting.{deepest}
 use Rattle.tiql_read.proofs.Many.{many_ok}
-use Rattle.tiql_read.proofs.Lists.{several_ok}
 
 fold_base : {A : Type 0} (f : A → ℕ) (xs : List A) (a n : ℕ) → fold max a (map f xs) ≤ n → a ≤ n
 fold_base f [] a n le = le

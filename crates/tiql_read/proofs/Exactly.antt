@@ -1,15 +1,13 @@
 -- whole queries are read exactly, and where reading stops is the first wrong word
-use Rattle.std.proofs.Common.{◌≡◌, ℕ, ◌+◌, ◌-◌, ◌<◌, ◌≤◌, zero, suc, Bool, true, false, cond, List, [], ◌∷◌, ◌++◌, length, map, drop, take, codes, refl, sym, ◌∙◌, ap, subst, append_assoc, arith, Result, Ok, Err}
-use Rattle.std.proofs.lemmas.List.{append-nil, length-append, map-append}
+use Rattle.std.proofs.Common.{◌≡◌, ℕ, ◌+◌, ◌-◌, ◌<◌, ◌≤◌, suc, Bool, true, false, cond, List, [], ◌∷◌, ◌++◌, length, map, take, codes, refl, sym, ◌∙◌, ap, subst, append_assoc, arith, Result, Ok, Err}
+use Rattle.std.proofs.lemmas.List.{append-nil, length-append}
 use Rattle.std.specs.declared.option.Option.{Option}
 use Rattle.std.specs.declared.option.Option.TheVariants.{None, Some}
-use Rattle.base_kit.specs.declared.place.Place.{Place}
 use Rattle.tiql_tree.specs.Words.{Word}
-use Rattle.tiql_tree.specs.Trees.{Places, place}
 use Rattle.tiql_read.specs.declared.word.Seen.{Seen}
-use Rattle.tiql_read.specs.Steps.{Words, Reading, word_of, ◌>>=◌, need, take_as, begins}
-use Rattle.tiql_read.proofs.Exact.{ws, ps, fixed, Fine, starts, none, Repaired, Stopped, Made, Exact, ws-append, length-ws, behind_ps, fixed-append, fine_front, fine_back, Halves, halves, Seam, seam, ok_value, ok_rest, err_left, ok_err, err_ok}
-use Rattle.std.proofs.Common.{◌&&◌, nat_eq}
+use Rattle.tiql_read.specs.Steps.{Words, Reading, word_of, ◌>>=◌}
+use Rattle.tiql_read.proofs.Exact.{ws, ps, fixed, Fine, none, ws-append, length-ws, fixed-append, fine_front, ok_rest, err_left, ok_err, err_ok}
+use Rattle.std.proofs.Common.{nat_eq}
 use Rattle.std.proofs.lemmas.Bool.Decides.{Decides-eqb, nat_tests}
 use Rattle.std.proofs.lemmas.Str.{is_utf8-from_IsUtf8}
 use Rattle.std.specs.Prelude.{nat_le}
@@ -19,17 +17,16 @@ use Rattle.base_kit.specs.Keywords as reserved
 use Rattle.base_kit.specs.Names.{is_name}
 use Rattle.tiql_lex.specs.declared.token.TokenKind.{TokenKind}
 use Rattle.tiql_lex.specs.declared.token.TokenKind.TheVariants.{Name, Keyword, Number, Text, Sign}
-use Rattle.tiql_lex.specs.Kinds.{is_number, quoted, doubled, kind_of, Fits, IsText}
+use Rattle.tiql_lex.specs.Kinds.{is_number, quoted, kind_of, Fits}
 use Rattle.tiql_lex.specs.Scan.{value_from}
 use Rattle.tiql_lex.proofs.KindFacts.{kind_name, kind_number}
 use Rattle.tiql_lex.proofs.Texts.{same_value, value_some, value_none}
 use Rattle.tiql_tree.specs.declared.tree.Tree.{Tree}
 use Rattle.tiql_tree.specs.declared.tree.Decl.{Decl}
 use Rattle.tiql_tree.specs.declared.tree.TreeGoal.{TreeGoal}
-use Rattle.tiql_tree.specs.Words.{named, digits, in_quotes}
+use Rattle.tiql_tree.specs.Words.{named, digits}
 use Rattle.tiql_tree.specs.Texts.{QueryText}
 use Rattle.tiql_tree.specs.Grammar.{query_words}
-use Rattle.tiql_tree.specs.Nesting.{query_depth}
 use Rattle.tiql_tree.specs.Trees.{query_tree}
 use Rattle.tiql_tree.specs.Spelled.{AreWordsOf, Begins}
 use Rattle.tiql_tree.proofs.Written.{Good}
@@ -143,8 +140,8 @@ completed words fine begun =
     let k = query_exact.repaired query are.depth in
     let others : Words = lifted (map fixed more) in
     let told : ws (words ++ others) ≡ query_words k.other =
-        ws-append words others ∙ ap (λ (l : List Word). ws words ++ l) (lifted_words (map fixed more)) ∙ ap (λ (l : List Word). l ++ map fixed more) (sym (fixed_ws words fine))
-        ∙ sym (fixed-append (ws words) more) ∙ ap (map fixed) (sym are.spelling) ∙ sym k.words in
+    ws-append words others ∙ ap (λ (l : List Word). ws words ++ l) (lifted_words (map fixed more)) ∙ ap (λ (l : List Word). l ++ map fixed more) (sym (fixed_ws words fine))
+    ∙ sym (fixed-append (ws words) more) ∙ ap (map fixed) (sym are.spelling) ∙ sym k.words in
     let read = query_exact.whole tt k.other (words ++ others) [] k.good told (fine_both words others fine (lifted_fine more)) refl in
     (others, query_tree (ps ((words ++ others) ++ [])) k.other, ap whole_at (sym (append-nil (words ++ others))) ∙ read)
 
@@ -245,8 +242,8 @@ stops words left good eq = go (whole_at words) refl (sym (query_is words) ∙ eq
         let k = query_exact.stop tt words other is in
         at_rest k.front k.rest k.split (k.size ∙ same other end) (k.more, k.derived, record { spelling = sym k.words; depth = k.good })
         (λ s more at others tree read.
-            let stopped = query_exact.same tt k.front s more others (ap whole_at (sym (k.split ∙ ap (λ (l : Words). k.front ++ l) at)) ∙ is ∙ ap (λ n. err n) (sym k.size ∙ ap length at)) in
-            err_ok (suc (length others)) (tree, []) (sym stopped ∙ read))
+        let stopped = query_exact.same tt k.front s more others (ap whole_at (sym (k.split ∙ ap (λ (l : Words). k.front ++ l) at)) ∙ is ∙ ap (λ n. err n) (sym k.size ∙ ap length at)) in
+        err_ok (suc (length others)) (tree, []) (sym stopped ∙ read))
       where
         err : ℕ → Reading Tree
         err n = Err n
@@ -258,11 +255,11 @@ stops words left good eq = go (whole_at words) refl (sym (query_is words) ∙ eq
         let k = query_exact.some tt words (s ∷ rest) t is in
         at_rest k.front (s ∷ rest) k.split (finish_more t s rest left end) ([], k.derived, record { spelling = sym k.words ∙ sym (append-nil (ws k.front)); depth = k.good })
         (λ r more at others tree read.
-            let head : s ≡ r = ap (head_or s) at in
-            let went = query_exact.steady tt k.front s rest others t (ap whole_at (sym k.split) ∙ is) in
-            let still : whole_at (k.front ++ s ∷ others) ≡ Ok (tree, []) = subst (λ (x : Seen). whole_at (k.front ++ x ∷ others) ≡ Ok (tree, [])) (sym head) read in
-            let ends = ok_rest t tree (s ∷ others) [] (sym went ∙ still) in
-            omega (arith, ap length ends))
+        let head : s ≡ r = ap (head_or s) at in
+        let went = query_exact.steady tt k.front s rest others t (ap whole_at (sym k.split) ∙ is) in
+        let still : whole_at (k.front ++ s ∷ others) ≡ Ok (tree, []) = subst (λ (x : Seen). whole_at (k.front ++ x ∷ others) ≡ Ok (tree, [])) (sym head) read in
+        let ends = ok_rest t tree (s ∷ others) [] (sym went ∙ still) in
+        omega (arith, ap length ends))
       where
         head_or : Seen → Words → Seen
         head_or x [] = x

@@ -1,36 +1,30 @@
 -- factors and expressions are read exactly
-use Rattle.std.proofs.Common.{◌≡◌, ℕ, ◌+◌, ◌-◌, ◌<◌, ◌≤◌, zero, suc, Bool, true, false, cond, List, [], ◌∷◌, ◌++◌, length, map, drop, take, codes, refl, sym, ◌∙◌, ap, subst, append_assoc, arith, Result, Ok, Err}
-use Rattle.std.proofs.lemmas.List.{append-nil, length-append, map-append}
-use Rattle.std.specs.declared.option.Option.{Option}
-use Rattle.std.specs.declared.option.Option.TheVariants.{None, Some}
+use Rattle.std.proofs.Common.{◌≡◌, ℕ, ◌≤◌, zero, suc, true, false, List, [], ◌∷◌, ◌++◌, drop, codes, refl, sym, ap, arith, Ok}
+use Rattle.std.proofs.lemmas.List.{append-nil}
 use Rattle.base_kit.specs.declared.place.Place.{Place}
 use Rattle.tiql_tree.specs.Words.{Word}
 use Rattle.tiql_tree.specs.Trees.{Places, place}
-use Rattle.tiql_read.specs.declared.word.Seen.{Seen}
-use Rattle.tiql_read.specs.Steps.{Words, Reading, word_of, ◌>>=◌, need, take_as, begins}
-use Rattle.tiql_read.proofs.Exact.{ws, ps, fixed, Fine, starts, none, Repaired, Stopped, Made, Exact, ws-append, length-ws, behind_ps, fixed-append, fine_front, fine_back, Halves, halves, Seam, seam, ok_value, ok_rest, err_left, ok_err, err_ok}
-use Rattle.std.proofs.Common.{◌||◌}
-use Rattle.std.specs.Prelude.{pos}
-use Rattle.std.specs.Str.Parse.{digits_value}
+use Rattle.tiql_read.specs.Steps.{Words, Reading, ◌>>=◌, need}
+use Rattle.tiql_read.proofs.Exact.{starts, Exact}
 use Rattle.tiql_tree.specs.declared.expression.TreeExpr.{TreeExpr}
-use Rattle.tiql_tree.specs.declared.expression.TreeForm.TheVariants.{Number, Text, Ref}
+use Rattle.tiql_tree.specs.declared.expression.TreeForm.TheVariants.{Ref}
 use Rattle.tiql_tree.specs.declared.expression.TreeForm.TheViews.{Neg, Abs}
-use Rattle.tiql_tree.specs.Words.{key, sign, digits, in_quotes}
-use Rattle.tiql_tree.specs.Texts.{RefText, FactorText, TermText, ExprText}
+use Rattle.tiql_tree.specs.Words.{key, sign}
+use Rattle.tiql_tree.specs.Texts.{RefText, FactorText, ExprText}
 use Rattle.std.proofs.lemmas.List.{drop-drop}
 use Rattle.tiql_tree.specs.Texts.RefText.{alone, qualified}
 use Rattle.tiql_tree.specs.Texts.FactorText.{negated, numeral, value_text, reference, absolute, grouped}
 use Rattle.tiql_tree.specs.Grammar.{ref_words, factor_words, expr_words}
 use Rattle.tiql_tree.specs.Nesting.{factor_depth, expr_depth}
 use Rattle.tiql_tree.specs.Trees.{expr_at, form_of, ref_tree, factor_tree, expr_tree}
-use Rattle.tiql_read.specs.Steps.{is_key, is_sign, is_kind, mark_at}
+use Rattle.tiql_read.specs.Steps.{is_key, is_sign, mark_at}
 use Rattle.tiql_read.specs.Expressions.{opens, expr_by, opened_by, factor_at, expression_at, adds}
 use Rattle.tiql_read.proofs.Rules.{one, word}
 use Rattle.tiql_read.proofs.Chains.{bind}
 use Rattle.tiql_read.proofs.Branches.Either.{one_way, other_way}
-use Rattle.tiql_read.proofs.Branches.{Either, either_words, either_ok, either_tree, branch, barred, recast, wider}
-use Rattle.tiql_read.proofs.Lists.{or_else, value, no_end}
-use Rattle.tiql_read.proofs.WordTests.{sign_needs, key_needs, mark_takes, lit_key, lit_tree}
+use Rattle.tiql_read.proofs.Branches.{Either, either_words, either_ok, either_tree, branch, barred, recast}
+use Rattle.tiql_read.proofs.Lists.{value, no_end}
+use Rattle.tiql_read.proofs.WordTests.{sign_needs, key_needs, mark_takes}
 use Rattle.tiql_read.proofs.Leaves.{simple_words, simple_ok, simple_tree, simple_exact}
 use Rattle.tiql_read.proofs.Sums.{anywhere, expr_ext, sum_exact}
 

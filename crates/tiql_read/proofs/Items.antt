@@ -1,35 +1,31 @@
 -- items with a name behind AS are read exactly
-use Rattle.std.proofs.Common.{◌≡◌, ℕ, ◌+◌, ◌-◌, ◌<◌, ◌≤◌, zero, suc, Bool, true, false, cond, List, [], ◌∷◌, ◌++◌, length, map, drop, take, codes, refl, sym, ◌∙◌, ap, subst, append_assoc, arith, Result, Ok, Err}
-use Rattle.std.proofs.lemmas.List.{append-nil, length-append, map-append}
-use Rattle.std.specs.declared.option.Option.{Option}
-use Rattle.std.specs.declared.option.Option.TheVariants.{None, Some}
+use Rattle.std.proofs.Common.{◌≡◌, ℕ, ◌+◌, ◌≤◌, false, List, [], ◌∷◌, ◌++◌, length, drop, codes, refl, sym, ◌∙◌, ap, arith, Ok}
+use Rattle.std.proofs.lemmas.List.{length-append}
 use Rattle.base_kit.specs.declared.place.Place.{Place}
 use Rattle.tiql_tree.specs.Words.{Word}
 use Rattle.tiql_tree.specs.Trees.{Places, place}
-use Rattle.tiql_read.specs.declared.word.Seen.{Seen}
-use Rattle.tiql_read.specs.Steps.{Words, Reading, word_of, ◌>>=◌, need, take_as, begins}
-use Rattle.tiql_read.proofs.Exact.{ws, ps, fixed, Fine, starts, none, Repaired, Stopped, Made, Exact, ws-append, length-ws, behind_ps, fixed-append, fine_front, fine_back, Halves, halves, Seam, seam, ok_value, ok_rest, err_left, ok_err, err_ok}
-use Rattle.std.proofs.Common.{◌||◌}
+use Rattle.tiql_read.specs.Steps.{Words, Reading, ◌>>=◌}
+use Rattle.tiql_read.proofs.Exact.{starts, none, Exact}
 use Rattle.std.proofs.lemmas.List.{drop-drop}
 use Rattle.tiql_tree.specs.declared.tree.Spot.{Spot}
 use Rattle.tiql_tree.specs.declared.tree.TreeItem.{TreeItem}
 use Rattle.tiql_tree.specs.declared.tree.TreeValue.TheVariants as values
 use Rattle.tiql_tree.specs.declared.expression.TreeExpr.{TreeExpr}
-use Rattle.tiql_tree.specs.Words.{key, sign, named}
-use Rattle.tiql_tree.specs.Texts.{RefText, ExprText}
-use Rattle.tiql_tree.specs.Grammar.{expr_words, in_parens, alias_words, name_words}
+use Rattle.tiql_tree.specs.Words.{key, sign}
+use Rattle.tiql_tree.specs.Texts.{ExprText}
+use Rattle.tiql_tree.specs.Grammar.{expr_words, in_parens, alias_words}
 use Rattle.tiql_tree.specs.Nesting.{expr_depth}
 use Rattle.tiql_tree.specs.Trees.{spot, expr_tree, item_at as item_of_value}
 use Rattle.tiql_read.specs.declared.word.Aggregate.{Aggregate}
 use Rattle.tiql_read.specs.declared.word.Aggregate.TheVariants.{Sum, Min, Max}
 use Rattle.tiql_read.specs.Steps.{is_key, is_sign, mark_at}
 use Rattle.tiql_read.specs.Expressions.{place_of, adds, expression_at}
-use Rattle.tiql_read.specs.Selects.{alias_at, grouped_at, aggregate_of, is_aggregate, value_by, item_of, aggregate_at, count_at}
+use Rattle.tiql_read.specs.Selects.{alias_at, grouped_at, aggregate_of, value_by, item_of, aggregate_at, count_at}
 use Rattle.tiql_read.proofs.Rules.{Takes, one, word}
 use Rattle.tiql_read.proofs.Chains.{bind}
 use Rattle.tiql_read.proofs.Branches.Either.{one_way, other_way}
 use Rattle.tiql_read.proofs.Branches.{Either, recast}
-use Rattle.tiql_read.proofs.Lists.{or_else, value, mapped, retold, no_end}
+use Rattle.tiql_read.proofs.Lists.{value, mapped, retold, no_end}
 use Rattle.tiql_read.proofs.WordTests.{sign_needs, key_needs, mark_takes, last_takes, or_takes, retake, either_key, either_value}
 use Rattle.tiql_read.proofs.Leaves.{name_exact, place_drop}
 use Rattle.tiql_read.proofs.Sums.{expr_ext, expr_place}
@@ -146,8 +142,8 @@ aggregate_exact {X} =
     trees : (e : X) (p : Places) (d : Aggregated) → aggregated_tree p d ≡ item_of (place 0 p) (value_by d.0 (expr_tree (drop 1 (drop 1 p)) d.1.0)) (spot 0 (drop 1 (drop (length (in_parens (expr_words d.1.0))) (drop 1 p))) d.1.1)
     trees e p d =
         let name : spot (3 + length (expr_words d.1.0) + 1) p d.1.1 ≡ spot 0 (drop 1 (drop (length (in_parens (expr_words d.1.0))) (drop 1 p))) d.1.1 =
-            ap (λ n. spot n p d.1.1) (size d) ∙ sym (spot_drop (1 + length (in_parens (expr_words d.1.0)) + 1) p d.1.1)
-            ∙ ap (λ (q : Places). spot 0 q d.1.1) (sym (ap (drop 1) (drop-drop (length (in_parens (expr_words d.1.0))) 1 p) ∙ drop-drop 1 (1 + length (in_parens (expr_words d.1.0))) p)) in
+        ap (λ n. spot n p d.1.1) (size d) ∙ sym (spot_drop (1 + length (in_parens (expr_words d.1.0)) + 1) p d.1.1)
+        ∙ ap (λ (q : Places). spot 0 q d.1.1) (sym (ap (drop 1) (drop-drop (length (in_parens (expr_words d.1.0))) 1 p) ∙ drop-drop 1 (1 + length (in_parens (expr_words d.1.0))) p)) in
         ap (λ (s : Spot). item_of (place 0 p) (value_by d.0 (expr_tree (drop 2 p) d.1.0)) s) name
         ∙ ap (λ (q : Places). item_of (place 0 p) (value_by d.0 (expr_tree q d.1.0)) (spot 0 (drop 1 (drop (length (in_parens (expr_words d.1.0))) (drop 1 p))) d.1.1)) (sym (drop-drop 1 1 p))
 

@@ -1,33 +1,30 @@
 -- names, columns, numbers and texts are read exactly
-use Rattle.std.proofs.Common.{◌≡◌, ℕ, ◌+◌, ◌-◌, ◌<◌, ◌≤◌, zero, suc, Bool, true, false, cond, List, [], ◌∷◌, ◌++◌, length, map, drop, take, codes, refl, sym, ◌∙◌, ap, subst, append_assoc, arith, Result, Ok, Err}
-use Rattle.std.proofs.lemmas.List.{append-nil, length-append, map-append}
+use Rattle.std.proofs.Common.{◌≡◌, ℕ, zero, suc, true, false, List, [], ◌∷◌, ◌++◌, map, drop, codes, refl, sym, ◌∙◌, ap}
 use Rattle.std.specs.declared.option.Option.{Option}
 use Rattle.std.specs.declared.option.Option.TheVariants.{None, Some}
 use Rattle.base_kit.specs.declared.place.Place.{Place}
 use Rattle.tiql_tree.specs.Words.{Word}
 use Rattle.tiql_tree.specs.Trees.{Places, place}
-use Rattle.tiql_read.specs.declared.word.Seen.{Seen}
-use Rattle.tiql_read.specs.Steps.{Words, Reading, word_of, ◌>>=◌, need, take_as, begins}
-use Rattle.tiql_read.proofs.Exact.{ws, ps, fixed, Fine, starts, none, Repaired, Stopped, Made, Exact, ws-append, length-ws, behind_ps, fixed-append, fine_front, fine_back, Halves, halves, Seam, seam, ok_value, ok_rest, err_left, ok_err, err_ok}
-use Rattle.std.proofs.Common.{◌&&◌}
+use Rattle.tiql_read.specs.Steps.{take_as}
+use Rattle.tiql_read.proofs.Exact.{fixed, starts, none, Exact}
 use Rattle.std.proofs.lemmas.List.{drop-drop}
 use Rattle.tiql_tree.specs.declared.tree.Spot.{Spot}
 use Rattle.tiql_tree.specs.declared.expression.TreeRef.{TreeRef}
 use Rattle.tiql_tree.specs.declared.expression.TreeExpr.{TreeExpr}
 use Rattle.tiql_tree.specs.declared.expression.TreeForm.TheVariants.{Ref}
-use Rattle.tiql_tree.specs.Words.{key, sign, named, digits, in_quotes}
+use Rattle.tiql_tree.specs.Words.{sign, named}
 use Rattle.tiql_tree.specs.Texts.{RefText}
 use Rattle.tiql_tree.specs.Texts.RefText.{alone, qualified}
 use Rattle.tiql_tree.specs.Grammar.{optional, name_words, ref_words}
 use Rattle.tiql_tree.specs.Trees.{expr_at, spot, ref_tree, ref_name}
-use Rattle.tiql_read.specs.Steps.{is_kind, is_key, is_sign, is_named, spot_of, spot_at}
+use Rattle.tiql_read.specs.Steps.{is_sign, is_named, spot_at}
 use Rattle.tiql_read.specs.Expressions.{literal_of, simple_at, point_at, ref_at, ref_name_at, ref_of, last_of}
 use Rattle.tiql_read.proofs.Rules.{one, word}
 use Rattle.tiql_read.proofs.Chains.{bind}
 use Rattle.tiql_read.proofs.Branches.Either.{one_way, other_way}
-use Rattle.tiql_read.proofs.Branches.{Either, either_words, either_ok, either_tree, branch, branch_fine, recast, wider}
+use Rattle.tiql_read.proofs.Branches.{Either, either_words, either_ok, either_tree, branch_fine, recast}
 use Rattle.tiql_read.proofs.Lists.{value, maybe, maybe_ok, maybe_tree, no_end}
-use Rattle.tiql_read.proofs.WordTests.{sign_needs, key_needs, spot_takes, lit_takes, lit_key, lit_tree, named_name, fixed_name}
+use Rattle.tiql_read.proofs.WordTests.{sign_needs, spot_takes, lit_takes, lit_key, lit_tree, named_name, fixed_name}
 
 pub place_drop : (n : ℕ) (p : Places) → place 0 (drop n p) ≡ place n p
 place_drop zero p = refl

@@ -1,14 +1,12 @@
 -- parts that may be missing, and parts between words
-use Rattle.std.proofs.Common.{◌≡◌, ℕ, ◌+◌, ◌-◌, ◌<◌, ◌≤◌, zero, suc, Bool, true, false, cond, List, [], ◌∷◌, ◌++◌, length, map, drop, take, codes, refl, sym, ◌∙◌, ap, subst, append_assoc, arith, Result, Ok, Err}
-use Rattle.std.proofs.lemmas.List.{append-nil, length-append, map-append}
+use Rattle.std.proofs.Common.{◌≡◌, ℕ, ◌+◌, Bool, true, false, cond, List, [], ◌∷◌, ◌++◌, length, drop, codes, refl, sym, ◌∙◌, ap, append_assoc, arith, Ok}
+use Rattle.std.proofs.lemmas.List.{append-nil, length-append}
 use Rattle.std.specs.declared.option.Option.{Option}
 use Rattle.std.specs.declared.option.Option.TheVariants.{None, Some}
-use Rattle.base_kit.specs.declared.place.Place.{Place}
 use Rattle.tiql_tree.specs.Words.{Word}
-use Rattle.tiql_tree.specs.Trees.{Places, place}
-use Rattle.tiql_read.specs.declared.word.Seen.{Seen}
-use Rattle.tiql_read.specs.Steps.{Words, Reading, word_of, ◌>>=◌, need, take_as, begins}
-use Rattle.tiql_read.proofs.Exact.{ws, ps, fixed, Fine, starts, none, Repaired, Stopped, Made, Exact, ws-append, length-ws, behind_ps, fixed-append, fine_front, fine_back, Halves, halves, Seam, seam, ok_value, ok_rest, err_left, ok_err, err_ok}
+use Rattle.tiql_tree.specs.Trees.{Places}
+use Rattle.tiql_read.specs.Steps.{Words, Reading, ◌>>=◌, need, begins}
+use Rattle.tiql_read.proofs.Exact.{starts, none, Exact}
 use Rattle.std.proofs.Common.{◌||◌}
 use Rattle.std.proofs.lemmas.List.{drop-drop}
 use Rattle.std.specs.List.{flat_map}
@@ -102,7 +100,7 @@ laid_many b w t e q [] = refl
 laid_many {X} {A} b w t e q (d ∷ ds) =
     let size : length (b ++ w d) + length b ≡ length b + (length (w d) + length b) = omega (arith, length-append b (w d)) in
     let places : drop (length b) (drop (length (b ++ w d)) q) ≡ drop (length (w d) + length b) (drop (length b) q) =
-        drop-drop (length b) (length (b ++ w d)) q ∙ ap (λ n. drop n q) size ∙ sym (drop-drop (length (w d) + length b) (length b) q) in
+    drop-drop (length b) (length (b ++ w d)) q ∙ ap (λ n. drop n q) size ∙ sym (drop-drop (length (w d) + length b) (length b) q) in
     ap (λ (l : List A). t e (drop (length b) q) d ∷ l) (laid_many b w t e (drop (length (b ++ w d)) q) ds ∙ ap (λ (p : Places). laid (length b) (λ d. length (w d)) (t e) p ds) places)
 
 -- one part and more of them behind words that part them

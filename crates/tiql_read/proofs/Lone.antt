@@ -1,15 +1,12 @@
 -- an item that is a column alone, or an expression with a name
-use Rattle.std.proofs.Common.{◌≡◌, ℕ, ◌+◌, ◌-◌, ◌<◌, ◌≤◌, zero, suc, Bool, true, false, cond, List, [], ◌∷◌, ◌++◌, length, map, drop, take, codes, refl, sym, ◌∙◌, ap, subst, append_assoc, arith, Result, Ok, Err}
-use Rattle.std.proofs.lemmas.List.{append-nil, length-append, map-append}
-use Rattle.std.specs.declared.option.Option.{Option}
-use Rattle.std.specs.declared.option.Option.TheVariants.{None, Some}
-use Rattle.base_kit.specs.declared.place.Place.{Place}
+use Rattle.std.proofs.Common.{◌≡◌, ℕ, ◌≤◌, suc, Bool, true, false, cond, List, [], ◌∷◌, ◌++◌, length, drop, codes, refl, sym, ◌∙◌, ap, subst, append_assoc, arith, Ok, Err}
+use Rattle.std.proofs.lemmas.List.{append-nil}
 use Rattle.tiql_tree.specs.Words.{Word}
 use Rattle.tiql_tree.specs.Trees.{Places, place}
 use Rattle.tiql_read.specs.declared.word.Seen.{Seen}
-use Rattle.tiql_read.specs.Steps.{Words, Reading, word_of, ◌>>=◌, need, take_as, begins}
-use Rattle.tiql_read.proofs.Exact.{ws, ps, fixed, Fine, starts, none, Repaired, Stopped, Made, Exact, ws-append, length-ws, behind_ps, fixed-append, fine_front, fine_back, Halves, halves, Seam, seam, ok_value, ok_rest, err_left, ok_err, err_ok}
-use Rattle.std.proofs.Common.{◌||◌, nat_eq}
+use Rattle.tiql_read.specs.Steps.{Words, Reading, ◌>>=◌, need, begins}
+use Rattle.tiql_read.proofs.Exact.{ws, ps, Fine, starts, none, Repaired, Stopped, Made, Exact, ws-append, fine_front, halves, seam, ok_value, ok_rest, err_left, ok_err, err_ok}
+use Rattle.std.proofs.Common.{nat_eq}
 use Rattle.std.proofs.Common.{bytes_eq}
 use Rattle.std.proofs.lemmas.Bool.{false≢true}
 use Rattle.std.proofs.lemmas.Bool.Decides.{Decides-eqb}
@@ -27,8 +24,8 @@ use Rattle.tiql_tree.specs.Texts.FactorText.{negated, numeral, value_text, refer
 use Rattle.tiql_tree.specs.Texts.TermText.{last_factor, next_factor}
 use Rattle.tiql_tree.specs.Texts.ExprText.{last_term, next_term}
 use Rattle.tiql_tree.specs.Grammar.{ref_words, factor_words, term_words, expr_words, alias_words}
-use Rattle.tiql_tree.specs.Nesting.{factor_depth, term_depth, expr_depth}
-use Rattle.tiql_tree.specs.Trees.{spot, expr_at, ref_tree, ref_name, factor_tree, term_tree, expr_tree}
+use Rattle.tiql_tree.specs.Nesting.{expr_depth}
+use Rattle.tiql_tree.specs.Trees.{spot, expr_at, ref_tree, ref_name, expr_tree}
 use Rattle.tiql_read.specs.Steps.{is_key, is_sign}
 use Rattle.tiql_read.specs.Expressions.{place_of, adds, expression_at, ref_name_at}
 use Rattle.tiql_read.specs.Selects.{alias_at, ends_at, lone_name, name_at, item_of, plain_at}

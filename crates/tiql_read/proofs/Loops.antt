@@ -1,12 +1,11 @@
 -- loops that read parts as long as one begins: what is left to read behind the parts so far
 use Rattle.std.proofs.Common.{◌≡◌, ℕ, zero, suc, ◌+◌, ◌-◌, ◌<◌, ◌≤◌, Bool, true, false, cond, List, [], ◌∷◌, ◌++◌, length, refl, sym, ◌∙◌, ap, append_assoc, arith}
-use Rattle.std.specs.Prelude.{Result, Ok, Err}
+use Rattle.std.specs.Prelude.{Ok, Err}
 use Rattle.std.proofs.lemmas.Bool.{false≢true}
 use Rattle.std.proofs.lemmas.List.{append-nil}
 use Rattle.std.specs.declared.option.Option.{Option}
 use Rattle.std.specs.declared.option.Option.TheVariants.{None, Some}
 use Rattle.tiql_tree.specs.Words.{Word}
-use Rattle.tiql_read.specs.declared.word.Seen.{Seen}
 use Rattle.tiql_read.specs.declared.word.Stop.{Stop}
 use Rattle.tiql_read.specs.declared.word.Stop.TheVariants.{Wrong}
 use Rattle.tiql_read.specs.Steps.{Words, Reading, behind, begins, need, told, next_at, more_at, many_at, word_of, ◌>>=◌}
@@ -84,6 +83,7 @@ module _ {A : Type 0} (test : Word → Bool) (part : Words → Reading A) where
       by_more : (x : A) (m : Reading (List A)) → (m >>= ahead x) ≡ Ok (more, rest) → 0 < length more
       by_more x (Ok y) e = let same : 1 + length y.0 ≡ length more = omega (arith, ap (λ (p : List A × Words). length p.0) (same_ok (x ∷ y.0, y.1) (more, rest) e)) in omega (arith, same)
       by_more x (Err n) e = cc
+
       by_part : (p : Reading A) → (p >>= λ x. more_at test part (length words) x.1 >>= ahead x.0) ≡ Ok (more, rest) → 0 < length more
       by_part (Ok x) e = by_more x.0 (more_at test part (length words) x.1) e
       by_part (Err n) e = cc

@@ -1,9 +1,7 @@
 -- what functions that read parts give, by what is read first and behind it
-use Rattle.std.proofs.Common.{◌≡◌, ℕ, zero, suc, ◌-◌, Bool, true, false, List, [], ◌∷◌, ◌++◌, length, refl, sym, ◌∙◌, ap, subst, arith}
-use Rattle.std.specs.Prelude.{Result, Ok, Err}
+use Rattle.std.proofs.Common.{◌≡◌, ℕ, zero, suc, ◌-◌, Bool, true, false, List, [], ◌∷◌, length, refl, sym, ◌∙◌, ap, arith}
+use Rattle.std.specs.Prelude.{Ok, Err}
 use Rattle.tiql_tree.specs.Words.{Word}
-use Rattle.tiql_tree.specs.declared.expression.TreeExpr.{TreeExpr}
-use Rattle.tiql_tree.specs.declared.condition.TreeCond.{TreeCond}
 use Rattle.tiql_read.specs.declared.word.Stop.{Stop}
 use Rattle.tiql_read.specs.declared.word.Stop.TheVariants.{Wrong}
 use Rattle.tiql_read.specs.Steps.{Words, Reading, begins, many_at, ◌>>=◌}
@@ -48,6 +46,7 @@ module _ {A B : Type 0} (part : Words → Reading A) (test : Word → Bool) (nex
       by_list [] w e all = absurd (omega (arith, many_some test next rest [] w some e))
       by_list (b ∷ bs) w e all =
           ap (λ (l : A). ok_of l w) (law b bs) ∙ ap (λ (p : List B × Words). ok_of (made p.0) p.1) (same_ok (one first ∷ b ∷ bs, w) (parts, last) all)
+
       by_more : (m : Reading (List B)) → many_at test next rest ≡ m → with_front (one first ∷ []) m ≡ Ok (parts, last) → (m >>= joined whole first) ≡ Ok (made parts, last)
       by_more (Ok more) e all = by_list more.0 more.1 e all
       by_more (Err n) e all = cc

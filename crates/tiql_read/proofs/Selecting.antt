@@ -1,15 +1,12 @@
 -- selects are read exactly
-use Rattle.std.proofs.Common.{◌≡◌, ℕ, ◌+◌, ◌-◌, ◌<◌, ◌≤◌, zero, suc, Bool, true, false, cond, List, [], ◌∷◌, ◌++◌, length, map, drop, take, codes, refl, sym, ◌∙◌, ap, subst, append_assoc, arith, Result, Ok, Err}
-use Rattle.std.proofs.lemmas.List.{append-nil, length-append, map-append}
+use Rattle.std.proofs.Common.{◌≡◌, ℕ, ◌+◌, ◌≤◌, Bool, true, false, cond, List, [], ◌∷◌, ◌++◌, length, drop, codes, refl, sym, ◌∙◌, ap, append_assoc, arith}
 use Rattle.std.specs.declared.option.Option.{Option}
 use Rattle.std.specs.declared.option.Option.TheVariants.{None, Some}
 use Rattle.base_kit.specs.declared.place.Place.{Place}
 use Rattle.tiql_tree.specs.Words.{Word}
 use Rattle.tiql_tree.specs.Trees.{Places, place}
-use Rattle.tiql_read.specs.declared.word.Seen.{Seen}
-use Rattle.tiql_read.specs.Steps.{Words, Reading, word_of, ◌>>=◌, need, take_as, begins}
-use Rattle.tiql_read.proofs.Exact.{ws, ps, fixed, Fine, starts, none, Repaired, Stopped, Made, Exact, ws-append, length-ws, behind_ps, fixed-append, fine_front, fine_back, Halves, halves, Seam, seam, ok_value, ok_rest, err_left, ok_err, err_ok}
-use Rattle.std.proofs.Common.{◌||◌, max}
+use Rattle.tiql_read.specs.Steps.{begins}
+use Rattle.tiql_read.proofs.Exact.{starts, none, Exact}
 use Rattle.std.proofs.Math.Nat.{max-le}
 use Rattle.std.proofs.lemmas.List.{drop-drop}
 use Rattle.std.specs.List.{flat_map}
@@ -19,34 +16,32 @@ use Rattle.tiql_tree.specs.declared.tree.TreeSource.{TreeSource}
 use Rattle.tiql_tree.specs.declared.tree.TreeSelect.{TreeSelect}
 use Rattle.tiql_tree.specs.declared.tree.TreeValue.TheVariants as values
 use Rattle.tiql_tree.specs.declared.expression.TreeRef.{TreeRef}
-use Rattle.tiql_tree.specs.declared.expression.TreeExpr.{TreeExpr}
 use Rattle.tiql_tree.specs.declared.condition.TreeCond.{TreeCond}
-use Rattle.tiql_tree.specs.Words.{key, sign, named, digits, in_quotes, Several, parts_of, with_between}
-use Rattle.tiql_tree.specs.Texts.{RefText, ExprText, CondText, ItemText, SourceText, SelectText}
+use Rattle.tiql_tree.specs.Words.{key, sign, named, Several, parts_of, with_between}
+use Rattle.tiql_tree.specs.Texts.{RefText, CondText, ItemText, SourceText, SelectText}
 use Rattle.tiql_tree.specs.Texts.RefText.{alone, qualified}
 use Rattle.tiql_tree.specs.Texts.ItemText.{lone_ref, plain_item, sum_item, min_item, max_item, count_item}
-use Rattle.tiql_tree.specs.Grammar.{comma, optional, in_parens, ref_words, expr_words, cond_words, alias_words, name_words, item_words, source_words, filter_words, select_words}
+use Rattle.tiql_tree.specs.Grammar.{comma, optional, ref_words, expr_words, cond_words, alias_words, item_words, source_words, filter_words, select_words}
 use Rattle.tiql_tree.specs.Nesting.{deepest, expr_depth, cond_depth, item_depth, filter_depth, select_depth}
 use Rattle.tiql_tree.specs.Trees.{spot, laid, laid_if, ref_tree, cond_tree, filter_tree, item_tree, source_tree, select_tree, item_at as item_of_value}
 use Rattle.tiql_read.specs.declared.word.Aggregate.TheVariants.{Sum, Min, Max}
-use Rattle.tiql_read.specs.Steps.{is_key, is_sign, mark_at, list_at}
-use Rattle.tiql_read.specs.Expressions.{adds, ref_at}
-use Rattle.tiql_read.specs.Conditions.{condition_at}
+use Rattle.tiql_read.specs.Steps.{is_key, is_sign, mark_at}
+use Rattle.tiql_read.specs.Expressions.{adds}
 use Rattle.tiql_read.specs.Selects.{is_aggregate, aggregate_at, count_at, plain_at, item_at, alias_if, source_of, source_at, filter_at, group_at, distinct_at, select_at}
 use Rattle.tiql_read.proofs.Rules.{one, word}
 use Rattle.tiql_read.proofs.Chains.{bind}
 use Rattle.tiql_read.proofs.Branches.Either.{one_way, other_way}
 use Rattle.tiql_read.proofs.Branches.{Either, either_words, either_ok, either_tree, branch, recast, wider}
 use Rattle.tiql_read.proofs.Many.{many_ok}
-use Rattle.tiql_read.proofs.Lists.{or_else, or_first, or_second, or_both, value, maybe, maybe_ok, maybe_tree, mapped, retold, several_ok, several_tree, listed, no_end}
+use Rattle.tiql_read.proofs.Lists.{or_else, or_first, or_second, value, maybe, maybe_ok, maybe_tree, mapped, retold, several_ok, several_tree, listed, no_end}
 use Rattle.tiql_read.proofs.Depths.{deepest_all, deepest_le}
-use Rattle.tiql_read.proofs.WordTests.{sign_needs, key_needs, mark_takes}
-use Rattle.tiql_read.proofs.Leaves.{name_exact, ref_exact, place_drop}
+use Rattle.tiql_read.proofs.WordTests.{key_needs, mark_takes}
+use Rattle.tiql_read.proofs.Leaves.{name_exact, ref_exact}
 use Rattle.tiql_read.proofs.Heads.{NoHead, expr_head}
-use Rattle.tiql_read.proofs.Sums.{anywhere, max_front, max_back, expr_ext}
-use Rattle.tiql_read.proofs.Units.{and_ext, cond_ext, condition_exact}
-use Rattle.tiql_read.proofs.Items.{spot_drop, alias_exact, Aggregated, aggregated_words, aggregated_tree, aggregate_exact, counted_words, count_exact, plain_words, plain_tree}
-use Rattle.tiql_read.proofs.Lone.{Plain, item_ext, item_words_of, item_ok_of, item_tree_of, lone_tree, plain_exact}
+use Rattle.tiql_read.proofs.Sums.{anywhere, max_front, max_back}
+use Rattle.tiql_read.proofs.Units.{cond_ext, condition_exact}
+use Rattle.tiql_read.proofs.Items.{spot_drop, alias_exact, Aggregated, aggregated_words, aggregated_tree, aggregate_exact, counted_words, count_exact}
+use Rattle.tiql_read.proofs.Lone.{Plain, item_ext, item_words_of, item_ok_of, item_tree_of, plain_exact}
 
 abbrev AnyItem : Type 0
 AnyItem = Either Aggregated (Either (List ℕ) Plain)
@@ -458,7 +453,7 @@ chosen =
     (bind (listed (source_exact {X = ((Unit {0} × Place) × Bool) × List TreeItem}) as_comma)
     (bind (filter_exact {X = (((Unit {0} × Place) × Bool) × List TreeItem) × List TreeSource})
     (wider (mapped (group_exact {X = ((((Unit {0} × Place) × Bool) × List TreeItem) × List TreeSource) × Option TreeCond})
-        (λ e. record { place = e.0.0.0.0.0.1; distinct = e.0.0.0.0.1; items = e.0.0.0.1; sources = e.0.0.1; filter = e.0.1; group = e.1 })) select_ext (or_first group_ext (or_else filter_ext sources_ext)))
+    (λ e. record { place = e.0.0.0.0.0.1; distinct = e.0.0.0.0.1; items = e.0.0.0.1; sources = e.0.0.1; filter = e.0.1; group = e.1 })) select_ext (or_first group_ext (or_else filter_ext sources_ext)))
     (λ d us good end. filter_apart d us end))
     (λ d us good end. sources_apart d us end)))
     (λ d us good end. items_apart us))

@@ -1,15 +1,12 @@
 -- sums and products are read exactly where their factors are
-use Rattle.std.proofs.Common.{◌≡◌, ℕ, ◌+◌, ◌-◌, ◌<◌, ◌≤◌, zero, suc, Bool, true, false, cond, List, [], ◌∷◌, ◌++◌, length, map, drop, take, codes, refl, sym, ◌∙◌, ap, subst, append_assoc, arith, Result, Ok, Err}
-use Rattle.std.proofs.lemmas.List.{append-nil, length-append, map-append}
-use Rattle.std.specs.declared.option.Option.{Option}
-use Rattle.std.specs.declared.option.Option.TheVariants.{None, Some}
+use Rattle.std.proofs.Common.{◌≡◌, ℕ, ◌+◌, ◌≤◌, Bool, true, false, cond, List, [], ◌∷◌, ◌++◌, length, drop, codes, refl, sym, ap, arith}
+use Rattle.std.proofs.lemmas.List.{append-nil}
 use Rattle.base_kit.specs.declared.place.Place.{Place}
 use Rattle.tiql_tree.specs.Words.{Word}
 use Rattle.tiql_tree.specs.Trees.{Places, place}
-use Rattle.tiql_read.specs.declared.word.Seen.{Seen}
-use Rattle.tiql_read.specs.Steps.{Words, Reading, word_of, ◌>>=◌, need, take_as, begins}
-use Rattle.tiql_read.proofs.Exact.{ws, ps, fixed, Fine, starts, none, Repaired, Stopped, Made, Exact, ws-append, length-ws, behind_ps, fixed-append, fine_front, fine_back, Halves, halves, Seam, seam, ok_value, ok_rest, err_left, ok_err, err_ok}
-use Rattle.std.proofs.Common.{◌||◌, max}
+use Rattle.tiql_read.specs.Steps.{Words, Reading}
+use Rattle.tiql_read.proofs.Exact.{Exact}
+use Rattle.std.proofs.Common.{max}
 use Rattle.std.proofs.Math.Nat.{le-max_left, le-max_right, max-le}
 use Rattle.tiql_tree.specs.declared.expression.TreeExpr.{TreeExpr}
 use Rattle.tiql_tree.specs.declared.expression.TreeSigned.{TreeSigned}
@@ -22,7 +19,7 @@ use Rattle.tiql_tree.specs.Texts.ExprText.{last_term, next_term}
 use Rattle.tiql_tree.specs.Grammar.{factor_words, term_words, expr_words}
 use Rattle.tiql_tree.specs.Nesting.{factor_depth, term_depth, expr_depth}
 use Rattle.tiql_tree.specs.Trees.{expr_at, signed, factor_tree, term_tree, product_parts, expr_tree, sum_parts}
-use Rattle.tiql_read.specs.Steps.{is_key, is_sign, next_at}
+use Rattle.tiql_read.specs.Steps.{is_sign, next_at}
 use Rattle.tiql_read.specs.Expressions.{place_of, product_of, sum_of, minus_of, adds, term_by, signed_by, sum_by, expr_by}
 use Rattle.tiql_read.proofs.Rules.{Takes, one, word}
 use Rattle.tiql_read.proofs.Chains.{bind}
@@ -30,7 +27,7 @@ use Rattle.tiql_read.proofs.Branches.{recast}
 use Rattle.tiql_read.proofs.Many.{under, many_ok}
 use Rattle.tiql_read.proofs.Lists.{or_else, value, no_end}
 use Rattle.tiql_read.proofs.Operators.{Operator, operators, made_by}
-use Rattle.tiql_read.proofs.WordTests.{sign_needs, key_needs, two_takes, retake}
+use Rattle.tiql_read.proofs.WordTests.{sign_needs, two_takes, retake}
 
 -- in any environment
 pub anywhere : {X A D : Type 0} {r : Words → Reading A} {w : D → List Word} {ok : D → Type 0} {t : Places → D → A} {ext : Word → Bool} → Exact {X = Unit {0}} {A = A} {D = D} (λ e v. r v) w ok (λ e p d. t p d) ext → Exact {X = X} {A = A} {D = D} (λ e v. r v) w ok (λ e p d. t p d) ext

@@ -1,6 +1,6 @@
 -- what is told of a text, by what is read of its words
-use Rattle.std.proofs.Common.{◌≡◌, ℕ, zero, suc, ◌+◌, ◌-◌, ◌<◌, ◌≤◌, List, [], ◌∷◌, ◌++◌, length, map, take, get_or, refl, sym, ◌∙◌, ap, subst, inl, inr, arith}
-use Rattle.std.specs.Prelude.{Result, Ok, Err, All, unwrap_or, ◌≢◌}
+use Rattle.std.proofs.Common.{◌≡◌, ℕ, zero, suc, ◌-◌, ◌<◌, ◌≤◌, List, [], ◌∷◌, length, map, get_or, refl, sym, ◌∙◌, ap, subst, inl, inr, arith}
+use Rattle.std.specs.Prelude.{Result, Ok, Err, All, unwrap_or}
 use Rattle.std.specs.List.{AllByRecursion}
 use Rattle.std.specs.declared.option.Option.{Option}
 use Rattle.std.specs.declared.option.Option.TheVariants.{None, Some}
@@ -9,16 +9,16 @@ use Rattle.std.proofs.lemmas.List.Elements.{All-nil, All-cons}
 use Rattle.base_kit.specs.declared.place.Place.{Place}
 use Rattle.tiql_lex.specs.declared.token.Token.{Token}
 use Rattle.tiql_lex.specs.declared.token.Lexed.{Lexed}
-use Rattle.tiql_lex.specs.Lexed.{text_of, AreTokens, IsLexed}
+use Rattle.tiql_lex.specs.Lexed.{AreTokens, IsLexed}
 use Rattle.tiql_lex.specs.Places.{mark_size}
 use Rattle.tiql_lex.proofs.Unique.{one_lexing}
 use Rattle.tiql_tree.specs.declared.tree.Tree.{Tree}
 use Rattle.tiql_tree.specs.Words.{Word}
 use Rattle.tiql_tree.specs.Trees.{place, query_tree}
-use Rattle.tiql_tree.specs.Spelled.{words_of, places_of, AreWordsOf, Spelled, Begins, IsFirstWrong, end_place, IsPlaceOfStop, IsStop}
+use Rattle.tiql_tree.specs.Spelled.{words_of, places_of, AreWordsOf, Spelled, Begins, end_place, IsPlaceOfStop, IsStop}
 use Rattle.tiql_tree.proofs.Written.{Good}
 use Rattle.tiql_read.specs.declared.reader.ReadFault.{ReadFault}
-use Rattle.tiql_read.specs.declared.reader.ReadFault.TheVariants.{Syntax, Memory}
+use Rattle.tiql_read.specs.declared.reader.ReadFault.TheVariants.{Syntax}
 use Rattle.tiql_read.specs.Steps.{Words, word_of}
 use Rattle.tiql_read.specs.Queries.{query_at}
 use Rattle.tiql_read.specs.Stops.{IsWithin, stop_place}

@@ -1,21 +1,16 @@
 -- conditions are read exactly
-use Rattle.std.proofs.Common.{◌≡◌, ℕ, ◌+◌, ◌-◌, ◌<◌, ◌≤◌, zero, suc, Bool, true, false, cond, List, [], ◌∷◌, ◌++◌, length, map, drop, take, codes, refl, sym, ◌∙◌, ap, subst, append_assoc, arith, Result, Ok, Err}
-use Rattle.std.proofs.lemmas.List.{append-nil, length-append, map-append}
-use Rattle.std.specs.declared.option.Option.{Option}
-use Rattle.std.specs.declared.option.Option.TheVariants.{None, Some}
-use Rattle.base_kit.specs.declared.place.Place.{Place}
+use Rattle.std.proofs.Common.{◌≡◌, ℕ, ◌+◌, ◌≤◌, zero, suc, Bool, true, false, List, [], ◌∷◌, ◌++◌, length, drop, codes, refl, sym, ◌∙◌, ap, append_assoc, arith}
+use Rattle.std.proofs.lemmas.List.{append-nil}
 use Rattle.tiql_tree.specs.Words.{Word}
-use Rattle.tiql_tree.specs.Trees.{Places, place}
-use Rattle.tiql_read.specs.declared.word.Seen.{Seen}
-use Rattle.tiql_read.specs.Steps.{Words, Reading, word_of, ◌>>=◌, need, take_as, begins}
-use Rattle.tiql_read.proofs.Exact.{ws, ps, fixed, Fine, starts, none, Repaired, Stopped, Made, Exact, ws-append, length-ws, behind_ps, fixed-append, fine_front, fine_back, Halves, halves, Seam, seam, ok_value, ok_rest, err_left, ok_err, err_ok}
-use Rattle.std.proofs.Common.{◌||◌, max}
+use Rattle.tiql_tree.specs.Trees.{Places}
+use Rattle.tiql_read.specs.Steps.{Words, Reading}
+use Rattle.tiql_read.proofs.Exact.{starts, Exact}
 use Rattle.std.proofs.Math.Nat.{max-le}
 use Rattle.std.proofs.lemmas.List.{drop-drop}
 use Rattle.tiql_tree.specs.declared.condition.TreeCmp.TheVariants.{Eq}
 use Rattle.tiql_tree.specs.declared.condition.TreeCond.{TreeCond}
 use Rattle.tiql_tree.specs.declared.condition.TreeCond.TheVariants.{Compare}
-use Rattle.tiql_tree.specs.declared.condition.TreeCond.TheViews.{Not, And, Or}
+use Rattle.tiql_tree.specs.declared.condition.TreeCond.TheViews.{Not}
 use Rattle.tiql_tree.specs.Words.{key, sign}
 use Rattle.tiql_tree.specs.Texts.{ExprText, CondText, ConjText, UnitText}
 use Rattle.tiql_tree.specs.Texts.CondText.{last_conj, next_conj}
@@ -28,14 +23,14 @@ use Rattle.tiql_tree.specs.Grammar.{cmp_text, expr_words, unit_words, conj_words
 use Rattle.tiql_tree.specs.Nesting.{expr_depth, unit_depth, conj_depth, cond_depth}
 use Rattle.tiql_tree.specs.Trees.{expr_tree, unit_tree, conj_tree, and_parts, cond_tree, or_parts}
 use Rattle.tiql_read.specs.Steps.{is_key, is_sign, next_at}
-use Rattle.tiql_read.specs.Expressions.{adds, expression_at}
-use Rattle.tiql_read.specs.Conditions.{compare_by, and_of, or_of, and_by, or_by, cond_by, opens_cond, enclosed_by, unit_at, condition_at}
+use Rattle.tiql_read.specs.Expressions.{adds}
+use Rattle.tiql_read.specs.Conditions.{and_of, or_of, and_by, or_by, cond_by, opens_cond, enclosed_by, unit_at, condition_at}
 use Rattle.tiql_read.proofs.Rules.{one, word}
 use Rattle.tiql_read.proofs.Chains.{bind}
 use Rattle.tiql_read.proofs.Branches.Either.{one_way, other_way}
 use Rattle.tiql_read.proofs.Branches.{Either, either_words, either_ok, either_tree, branch, barred, recast}
 use Rattle.tiql_read.proofs.Many.{many_ok}
-use Rattle.tiql_read.proofs.Lists.{or_else, value, no_end}
+use Rattle.tiql_read.proofs.Lists.{or_else, value}
 use Rattle.tiql_read.proofs.Operators.{Operator, operators, made_by}
 use Rattle.tiql_read.proofs.WordTests.{sign_needs, key_needs}
 use Rattle.tiql_read.proofs.Sums.{anywhere, max_front, max_back, expr_ext}

@@ -1,15 +1,11 @@
 -- views, requirements, goals and whole queries are read exactly
-use Rattle.std.proofs.Common.{◌≡◌, ℕ, ◌+◌, ◌-◌, ◌<◌, ◌≤◌, zero, suc, Bool, true, false, cond, List, [], ◌∷◌, ◌++◌, length, map, drop, take, codes, refl, sym, ◌∙◌, ap, subst, append_assoc, arith, Result, Ok, Err}
-use Rattle.std.proofs.lemmas.List.{append-nil, length-append, map-append}
-use Rattle.std.specs.declared.option.Option.{Option}
-use Rattle.std.specs.declared.option.Option.TheVariants.{None, Some}
-use Rattle.base_kit.specs.declared.place.Place.{Place}
+use Rattle.std.proofs.Common.{◌≡◌, ℕ, ◌+◌, ◌≤◌, Bool, true, false, cond, List, [], ◌∷◌, ◌++◌, length, drop, codes, refl, sym, ◌∙◌, ap, append_assoc, arith, Ok}
+use Rattle.std.proofs.lemmas.List.{length-append}
 use Rattle.tiql_tree.specs.Words.{Word}
-use Rattle.tiql_tree.specs.Trees.{Places, place}
-use Rattle.tiql_read.specs.declared.word.Seen.{Seen}
-use Rattle.tiql_read.specs.Steps.{Words, Reading, word_of, ◌>>=◌, need, take_as, begins}
-use Rattle.tiql_read.proofs.Exact.{ws, ps, fixed, Fine, starts, none, Repaired, Stopped, Made, Exact, ws-append, length-ws, behind_ps, fixed-append, fine_front, fine_back, Halves, halves, Seam, seam, ok_value, ok_rest, err_left, ok_err, err_ok}
-use Rattle.std.proofs.Common.{◌||◌, max}
+use Rattle.tiql_tree.specs.Trees.{Places}
+use Rattle.tiql_read.specs.Steps.{Words, Reading, ◌>>=◌}
+use Rattle.tiql_read.proofs.Exact.{starts, none, Exact}
+use Rattle.std.proofs.Common.{max}
 use Rattle.std.proofs.Math.Nat.{max-le}
 use Rattle.std.proofs.lemmas.List.{drop-drop}
 use Rattle.std.specs.List.{flat_map}
@@ -17,8 +13,6 @@ use Rattle.tiql_tree.specs.declared.tree.Spot.{Spot}
 use Rattle.tiql_tree.specs.declared.tree.Tree.{Tree}
 use Rattle.tiql_tree.specs.declared.tree.Decl.{Decl}
 use Rattle.tiql_tree.specs.declared.tree.Decl.TheVariants.{Table, Hypo, View, Require}
-use Rattle.tiql_tree.specs.declared.tree.TreeTable.{TreeTable}
-use Rattle.tiql_tree.specs.declared.tree.TreeHypo.{TreeHypo}
 use Rattle.tiql_tree.specs.declared.tree.TreeView.{TreeView}
 use Rattle.tiql_tree.specs.declared.tree.TreeSelect.{TreeSelect}
 use Rattle.tiql_tree.specs.declared.tree.TreeRequire.{TreeRequire}
@@ -26,8 +20,7 @@ use Rattle.tiql_tree.specs.declared.tree.TreeRequire.TheVariants as needs
 use Rattle.tiql_tree.specs.declared.tree.TreeGoal.{TreeGoal}
 use Rattle.tiql_tree.specs.declared.tree.TreeGoal.TheVariants as goals
 use Rattle.tiql_tree.specs.declared.expression.TreeExpr.{TreeExpr}
-use Rattle.tiql_tree.specs.declared.condition.TreeCond.{TreeCond}
-use Rattle.tiql_tree.specs.Words.{key, sign, named, Several, parts_of, with_between}
+use Rattle.tiql_tree.specs.Words.{key, sign, named, parts_of}
 use Rattle.tiql_tree.specs.Texts.{ExprText, CondText, SelectText, TableText, HypoText, ViewText, RequireText, DeclText, GoalText, QueryText}
 use Rattle.tiql_tree.specs.Texts.RequireText.{all_have, some_have, none_is}
 use Rattle.tiql_tree.specs.Texts.DeclText.{table_decl, hypo_decl, view_decl, require_decl}
@@ -35,19 +28,19 @@ use Rattle.tiql_tree.specs.Texts.GoalText.{find_goal, sum_goal}
 use Rattle.tiql_tree.specs.Grammar.{in_parens, expr_words, cond_words, select_words, table_words, hypo_words, view_words, require_words, decl_words, goal_words, query_words}
 use Rattle.tiql_tree.specs.Nesting.{deepest, expr_depth, cond_depth, select_depth, require_depth, decl_depth, goal_depth, query_depth}
 use Rattle.tiql_tree.specs.Trees.{spot, laid, expr_tree, cond_tree, select_tree, table_tree, hypo_tree, view_tree, require_tree, decl_tree, goal_tree, query_tree}
-use Rattle.tiql_read.specs.Steps.{is_key, is_sign, spot_at, many_at}
+use Rattle.tiql_read.specs.Steps.{is_key, is_sign, many_at}
 use Rattle.tiql_read.specs.Expressions.{adds}
-use Rattle.tiql_read.specs.Queries.{arm_at, view_at, for_all, require_of, have_at, none_at, require_at, table_at, hypo_at, decl_at, declares, aim_of, find_at, sum_goal_at, goal_at}
+use Rattle.tiql_read.specs.Queries.{arm_at, view_at, for_all, require_of, have_at, none_at, require_at, decl_at, declares, aim_of, find_at, sum_goal_at, goal_at}
 use Rattle.tiql_read.proofs.Rules.{Takes, one, word}
 use Rattle.tiql_read.proofs.Chains.{bind}
 use Rattle.tiql_read.proofs.Branches.Either.{one_way, other_way}
-use Rattle.tiql_read.proofs.Branches.{Either, either_words, either_ok, either_tree, branch, recast, wider}
+use Rattle.tiql_read.proofs.Branches.{Either, either_words, either_ok, either_tree, branch, recast}
 use Rattle.tiql_read.proofs.Many.{under, many, many_ok, many_tree}
 use Rattle.tiql_read.proofs.Lists.{or_else, or_first, or_second, value, mapped, retold, followed, laid_many, no_end}
 use Rattle.tiql_read.proofs.Depths.{deepest_all, deepest_le}
 use Rattle.tiql_read.proofs.WordTests.{sign_needs, key_needs, two_takes, retake}
-use Rattle.tiql_read.proofs.Leaves.{name_exact, place_drop}
-use Rattle.tiql_read.proofs.Sums.{anywhere, max_front, max_back, expr_ext}
+use Rattle.tiql_read.proofs.Leaves.{name_exact}
+use Rattle.tiql_read.proofs.Sums.{anywhere, max_front, max_back}
 use Rattle.tiql_read.proofs.Units.{cond_ext, condition_exact}
 use Rattle.tiql_read.proofs.Items.{spot_drop, grouped_exact}
 use Rattle.tiql_read.proofs.Selecting.{select_ext, select_exact}

@@ -1,5 +1,5 @@
 -- what single words say
-use Rattle.std.proofs.Common.{◌≡◌, ℕ, ◌+◌, ◌-◌, ◌<◌, ◌≤◌, Bool, true, false, cond, not, ◌&&◌, List, [], ◌∷◌, ◌++◌, length, take, drop, get_or, nat_eq, refl, sym, ◌∙◌, ap, subst, arith}
+use Rattle.std.proofs.Common.{◌≡◌, ℕ, ◌-◌, ◌<◌, ◌≤◌, Bool, true, false, cond, not, ◌&&◌, List, [], ◌∷◌, ◌++◌, length, take, drop, nat_eq, refl, sym, ◌∙◌, ap, subst, arith}
 use Rattle.std.specs.Prelude.{nat_le, Result, Ok, Err, IfOk}
 use Rattle.base_kit.specs.declared.memory.Memory.{Memory}
 use Rattle.std.specs.declared.option.Option.{Option}
@@ -82,6 +82,7 @@ says_nothing (b ∷ bs) none = by_quote (nat_eq b 39) refl
     by_value : b ≡ 39 → (o : Option (List ℕ)) → value_from [] false bs ≡ o → None ≡ short_text o
     by_value quote None e = refl
     by_value quote (Some v) e = absurd (none v (value_some (b ∷ bs) bs v (omega arith) quote (behind_first b bs) e))
+
     by_quote : (t : Bool) → nat_eq b 39 ≡ t → None ≡ cond t (short_text (value_from [] false bs)) None
     by_quote true q = by_value (grind (arith, nat_tests)) (value_from [] false bs) refl
     by_quote false q = refl

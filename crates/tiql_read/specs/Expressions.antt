@@ -1,5 +1,5 @@
 -- how references and expressions are read
-use Rattle.std.specs.Prelude.{ℕ, zero, suc, pos, Bool, true, false, ◌&&◌, ◌||◌, ◌==◌, nat_le, if◌then◌else◌, List, [], ◌∷◌, length, codes, Result, Ok, Err}
+use Rattle.std.specs.Prelude.{ℕ, zero, suc, pos, Bool, true, false, ◌&&◌, ◌||◌, ◌==◌, nat_le, if◌then◌else◌, List, [], ◌∷◌, length, codes, Ok, Err}
 use Rattle.std.specs.Str.{is_utf8}
 use Rattle.std.specs.Str.Parse.{digits_value}
 use Rattle.std.specs.declared.option.Option.{Option}
@@ -128,9 +128,9 @@ opened_by factor words =
     then (mark_at (is_sign (codes "-")) words >>= λ place. factor place.1 >>= λ part. Ok (expr_at place.0 (Neg part.0), part.1))
     else (if begins (is_sign (codes "(")) words
     then (mark_at (is_sign (codes "(")) words >>= λ place. expr_by factor place.1 >>= λ part.
-        need (is_sign (codes ")")) part.1 >>= λ rest. Ok (expr_at place.0 (form_of part.0), rest))
+    need (is_sign (codes ")")) part.1 >>= λ rest. Ok (expr_at place.0 (form_of part.0), rest))
     else (mark_at (is_key (codes "ABS")) words >>= λ place. need (is_sign (codes "(")) place.1 >>= λ inner. expr_by factor inner >>= λ part.
-        need (is_sign (codes ")")) part.1 >>= λ rest. Ok (expr_at place.0 (Abs part.0), rest)))
+    need (is_sign (codes ")")) part.1 >>= λ rest. Ok (expr_at place.0 (Abs part.0), rest)))
 
 -- a factor, in which so many more signs and words may open something
 unfoldable pub factor_at : ℕ → Words → Reading TreeExpr

@@ -2,8 +2,9 @@
 use Rattle.std.specs.Prelude.{◌≡◌, ℕ, List, ◌++◌, Result, Ok, Err}
 use Rattle.std.specs.Borrow.{Bor}
 use Rattle.tiql_read.specs.declared.word.Stop.{Stop}
-use Rattle.tiql_read.specs.declared.word.Stop.TheVariants.{Wrong, Memory}
-use Rattle.tiql_read.specs.Steps.{Words, Reading}
+use Rattle.tiql_read.specs.declared.word.Stop.TheVariants.{Wrong}
+use Rattle.tiql_tree.specs.Words.{Word}
+use Rattle.tiql_read.specs.Steps.{Words, Reading, many_at, next_at}
 
 -- the same part, and the same words behind it
 abbrev pub Gives : {A : Type 0} → Result (A × Bor Words) Stop → Reading A → Type 0
@@ -24,3 +25,7 @@ GivesAll (Err stop) outcome = (left : ℕ) → stop ≡ Wrong left → outcome �
 abbrev pub with_front : {A : Type 0} → List A → Reading (List A) → Reading (List A)
 with_front front (Ok more) = Ok (front ++ more.0, more.1)
 with_front front (Err left) = Err left
+
+-- these parts, and all that are read behind words which pass the test
+abbrev pub parts_behind : {A : Type 0} → List A → (Word → Bool) → (Words → Reading A) → Words → Reading (List A)
+parts_behind front test part words = with_front front (many_at test (next_at test part) words)

@@ -38,7 +38,7 @@ unfoldable pub key_at : Words → Reading (List Spot)
 key_at words =
     if begins (is_key (codes "KEY")) words
     then (need (is_key (codes "KEY")) words >>= λ open_sign. need (is_sign (codes "(")) open_sign >>= λ inner. list_at spot_at inner >>= λ names.
-        need (is_sign (codes ")")) names.1 >>= λ rest. Ok (names.0, rest))
+    need (is_sign (codes ")")) names.1 >>= λ rest. Ok (names.0, rest))
     else Ok ([], words)
 
 -- a table

@@ -22,7 +22,6 @@ abbrev pub word_of : Seen → Word
 word_of seen = record { kind = seen.kind; text = seen.text }
 
 infixl 10 ◌>>=◌
-
 -- goes on where nothing was wrong
 abbrev pub ◌>>=◌ : {A B : Type 0} → Result A ℕ → (A → Result B ℕ) → Result B ℕ
 Ok a >>= f = f a

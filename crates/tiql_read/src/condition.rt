@@ -1,6 +1,6 @@
 //! Reads conditions.
 ghost use Rattle.std.specs.Prelude.{◌≡◌, codes};
-ghost use Rattle.tiql_read.specs.Outcomes.{Gives, with_front};
+ghost use Rattle.tiql_read.specs.Outcomes.{Gives, parts_behind};
 ghost use Rattle.tiql_read.specs.Steps.{begins, take_as, many_at, next_at, is_key};
 ghost use Rattle.tiql_read.specs.Expressions.{expression_at};
 ghost use Rattle.tiql_read.specs.Conditions as spec;
@@ -99,7 +99,7 @@ fn more_alternatives(
     parts: List<TreeCond>,
     words: &[Seen],
 ) -> Reading<'_, List<TreeCond>>
-    ensures { Gives result (with_front parts (many_at (is_key (codes "OR")) (next_at (is_key (codes "OR")) (spec.and_by (spec.unit_at room))) words.now)) }
+    ensures { Gives result (parts_behind parts (is_key (codes "OR")) (spec.and_by (spec.unit_at room)) words.now) }
 {
     let mut parts = parts;
     let mut rest = words;
@@ -139,7 +139,7 @@ fn more_together(
     parts: List<TreeCond>,
     words: &[Seen],
 ) -> Reading<'_, List<TreeCond>>
-    ensures { Gives result (with_front parts (many_at (is_key (codes "AND")) (next_at (is_key (codes "AND")) (spec.unit_at room)) words.now)) }
+    ensures { Gives result (parts_behind parts (is_key (codes "AND")) (spec.unit_at room) words.now) }
 {
     let mut parts = parts;
     let mut rest = words;

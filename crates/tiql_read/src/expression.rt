@@ -1,6 +1,6 @@
 //! Reads expressions.
 ghost use Rattle.std.specs.Prelude.{◌≡◌, codes};
-ghost use Rattle.tiql_read.specs.Outcomes.{Gives, with_front};
+ghost use Rattle.tiql_read.specs.Outcomes.{Gives, with_front, parts_behind};
 ghost use Rattle.tiql_read.specs.Steps.{begins, take_as, many_at, next_at, is_sign};
 ghost use Rattle.tiql_read.specs.Expressions as spec;
 
@@ -39,9 +39,7 @@ fn begins_opening(words: &[Seen]) -> bool
     ensures { result ≡ begins spec.opens words.now }
 {
     match words {
-        [first, ..] => {
-            is_sign(first, b"-") || is_sign(first, b"(") || is_key(first, b"ABS")
-        }
+        [first, ..] => { is_sign(first, b"-") || is_sign(first, b"(") || is_key(first, b"ABS") }
         [] => false,
     }
 }
@@ -100,7 +98,8 @@ fn more_terms(
     parts: List<TreeSigned>,
     words: &[Seen],
 ) -> Reading<'_, List<TreeSigned>>
-    ensures { Gives result (with_front parts (many_at spec.adds (spec.signed_by (spec.term_by (spec.factor_at room))) words.now)) }
+    ensures { Gives result
+        (with_front parts (many_at spec.adds (spec.signed_by (spec.term_by (spec.factor_at room))) words.now)) }
 {
     let mut parts = parts;
     let mut rest = words;
@@ -153,7 +152,7 @@ fn more_factors(
     parts: List<TreeExpr>,
     words: &[Seen],
 ) -> Reading<'_, List<TreeExpr>>
-    ensures { Gives result (with_front parts (many_at (is_sign (codes "*")) (next_at (is_sign (codes "*")) (spec.factor_at room)) words.now)) }
+    ensures { Gives result (parts_behind parts (is_sign (codes "*")) (spec.factor_at room) words.now) }
 {
     let mut parts = parts;
     let mut rest = words;

@@ -1,6 +1,6 @@
 //! Reads parts with commas between them.
 ghost use Rattle.std.specs.Prelude.{codes};
-ghost use Rattle.tiql_read.specs.Outcomes.{Gives, with_front};
+ghost use Rattle.tiql_read.specs.Outcomes.{Gives, parts_behind};
 ghost use Rattle.tiql_read.specs.Steps.{many_at, next_at, list_at, is_sign};
 
 use crate::leaf::after_sign;
@@ -34,7 +34,7 @@ pub fn list<P: Part>(alloc: Global, words: &[Seen]) -> Reading<'_, List<P>>
 
 // The parts so far, and all parts behind a comma that follow.
 fn more_parts<P: Part>(alloc: Global, parts: List<P>, words: &[Seen]) -> Reading<'_, List<P>>
-    ensures { Gives result (with_front parts (many_at (is_sign (codes ",")) (next_at (is_sign (codes ",")) P.reading) words.now)) }
+    ensures { Gives result (parts_behind parts (is_sign (codes ",")) P.reading words.now) }
 {
     let mut parts = parts;
     let mut rest = words;

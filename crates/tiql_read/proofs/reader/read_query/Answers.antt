@@ -1,4 +1,4 @@
-use Rattle.std.proofs.Common.{refl, sym, subst, ◌∙◌}
+use Rattle.std.proofs.Common.{sym, subst}
 use Rattle.std.specs.Prelude.{All}
 use Rattle.tiql_lex.specs.Places.{mark_size}
 use Rattle.tiql_read.specs.Stops.{IsWithin}
