@@ -14,7 +14,7 @@ use Rattle.cert_check.proofs.Accepted.{accepted_valid, valid_right}
 use Rattle.cert_check.proofs.Spelled.{valid_spelled}
 use Rattle.tables_csv.proofs.FirstTables.{first_table-numbers}
 use Rattle.tiql_read.specs.FirstTexts.{IsFirstQuery}
-use Rattle.tiresias_core.proofs.FirstReading.{first_text-query}
+use Rattle.tiresias_core.proofs.FirstAsked.{first_text-query}
 use Rattle.tiresias_core.specs.Visits.{Visit}
 use Rattle.tiresias_core.specs.Causes.{Accepted}
 use Rattle.tiresias_core.specs.Results.{IsReadable}

@@ -13,7 +13,7 @@ use Rattle.tiql_check.specs.declared.fault.SoundFault.{SoundFault}
 use Rattle.tiql_tree.specs.Spelled.{IsStop as IsSyntaxStop}
 use Rattle.tiql_read.proofs.Single.{one_stop}
 use Rattle.tiresias_core.specs.FirstTrees.{IsFirstText}
-use Rattle.tiresias_core.proofs.FirstReading.{first_text-one, first_text-query, unbuilt_text, stopped_text, stopped_unbuilt, stopped_unsound, unsound_text, unsound_unbuilt, one_unsound}
+use Rattle.tiresias_core.proofs.FirstAsked.{first_text-one, first_text-query, unbuilt_text, stopped_text, stopped_unbuilt, stopped_unsound, unsound_text, unsound_unbuilt, one_unsound}
 use Rattle.answer_text.specs.Answers.{AnswerText, IsStop, line_of}
 use Rattle.answer_text.specs.declared.answer.Answer.{Answer}
 use Rattle.answer_text.proofs.AnswerTexts.{one_answer}

@@ -5,4 +5,7 @@ pub mod Saying
 pub mod Calling
 pub mod Auditing
 pub mod FirstQueries
+pub mod FirstAsked
+pub mod FirstNames
 pub mod FirstReading
+pub mod FirstResolving

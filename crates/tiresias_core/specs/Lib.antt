@@ -1,7 +1,10 @@
 pub mod Asking
 pub mod Causes
 pub mod Exact
+pub mod FirstReading
+pub mod FirstResolving
 pub mod FirstTrees
+pub mod FirstViews
 pub mod Forms
 pub mod Pieces
 pub mod Replies

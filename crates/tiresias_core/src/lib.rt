@@ -6,6 +6,7 @@ mod engine;
 mod fetch;
 mod first;
 mod reply;
+mod resolve;
 #[cfg(test)]
 mod tests;
 mod words;

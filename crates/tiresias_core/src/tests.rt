@@ -306,14 +306,157 @@ fn not_built(
 #[test]
 fn other_forms_are_not_built(rt: HostRuntime) -> Result<(), Fail> {
     not_built(&rt, rt.alloc(), (MAXIMIZED, TABLE), Status::Query, "q")?;
-    not_built(&rt, rt.alloc(), (MARKED, TABLE), Status::Query, "q")?;
-    not_built(&rt, rt.alloc(), (GROUPED, TABLE), Status::Query, "q")?;
     not_built(
         &rt,
         rt.alloc(),
         (QUERY, "id,qty\n1,x\n"),
         Status::Tables,
         "d/item.csv",
+    )
+}
+
+/// Asserts that the query is answered as the first one.
+fn is_first(rt: &impl Abort, alloc: Global, query: &str) -> Result<(), Fail> {
+    ends(
+        rt,
+        alloc,
+        (query, TABLE),
+        "solve q d",
+        &[],
+        Status::Done,
+        LISTED,
+    )
+}
+
+#[test]
+fn a_form_is_told_by_the_tree(rt: HostRuntime) -> Result<(), Fail> {
+    is_first(&rt, rt.alloc(), MARKED)?;
+    is_first(&rt, rt.alloc(), GROUPED)
+}
+
+/// Asserts that the query is refused with this line.
+fn query_refused(rt: &impl Abort, alloc: Global, query: &str, line: &str) -> Result<(), Fail> {
+    ends(
+        rt,
+        alloc,
+        (query, TABLE),
+        "solve q d",
+        &[],
+        Status::Query,
+        line,
+    )
+}
+
+/// A requirement within so many square brackets.
+fn nested(alloc: Global, depth: u32) -> Result<String, Fail> {
+    let mut text = String::from_str(alloc, "TABLE t (a INT); REQUIRE ALL t HAVE ")?;
+    for _ in 0..depth {
+        text.push_str("[")?;
+    }
+    text.push_str("a = 1")?;
+    for _ in 0..depth {
+        text.push_str("]")?;
+    }
+    text.push_str("; FIND;")?;
+    Ok(text)
+}
+
+#[test]
+fn a_wrong_text_is_told_with_its_place(rt: HostRuntime) -> Result<(), Fail> {
+    let alloc = rt.alloc();
+    query_refused(&rt, alloc, "FIND", "refused: syntax 1:5\n")?;
+    query_refused(
+        &rt,
+        alloc,
+        "TABLE t (a INT); FIND; FIND;",
+        "refused: syntax 1:24\n",
+    )?;
+    query_refused(
+        &rt,
+        alloc,
+        nested(alloc, 65)?.as_str(),
+        "refused: syntax 1:101\n",
+    )?;
+    query_refused(
+        &rt,
+        alloc,
+        nested(alloc, 64)?.as_str(),
+        "refused: not built q\n",
+    )
+}
+
+#[test]
+fn names_are_told_with_their_places(rt: HostRuntime) -> Result<(), Fail> {
+    let alloc = rt.alloc();
+    query_refused(
+        &rt,
+        alloc,
+        "HYPO h FROM t; FIND;",
+        "refused: unknown name 1:13\n",
+    )?;
+    query_refused(
+        &rt,
+        alloc,
+        "TABLE t (a INT, a INT); FIND;",
+        "refused: same name 1:17\n",
+    )?;
+    query_refused(
+        &rt,
+        alloc,
+        "TABLE t (a INT) KEY (b); FIND;",
+        "refused: no such key column 1:22\n",
+    )
+}
+
+#[test]
+fn hypothetical_tables_are_told_with_their_places(rt: HostRuntime) -> Result<(), Fail> {
+    let alloc = rt.alloc();
+    query_refused(
+        &rt,
+        alloc,
+        "TABLE t (a TEXT); HYPO h FROM t SET a IN 0 .. 1; FIND;",
+        "refused: wrong type 1:37\n",
+    )?;
+    query_refused(
+        &rt,
+        alloc,
+        "TABLE t (a INT) KEY (a); HYPO h FROM t SET a IN 0 .. 1; FIND;",
+        "refused: key unknown 1:44\n",
+    )?;
+    query_refused(
+        &rt,
+        alloc,
+        "TABLE t (a INT); HYPO h FROM t DROP; FIND;",
+        "refused: key missing 1:32\n",
+    )
+}
+
+#[test]
+fn selects_and_products_are_told_with_their_places(rt: HostRuntime) -> Result<(), Fail> {
+    let alloc = rt.alloc();
+    query_refused(
+        &rt,
+        alloc,
+        "TABLE t (a INT); HYPO h FROM t SET a IN 0 .. 1; VIEW v AS SELECT DISTINCT a FROM h; FIND;",
+        "refused: not fixed 1:75\n",
+    )?;
+    query_refused(
+        &rt,
+        alloc,
+        "TABLE t (a INT, b INT); VIEW v AS SELECT a, COUNT(*) AS n FROM t; FIND;",
+        "refused: not grouped 1:42\n",
+    )?;
+    query_refused(
+        &rt,
+        alloc,
+        "TABLE t (a INT, p INT);\nHYPO h FROM t SET a IN 0 .. 1;\nMAXIMIZE SUM(a * a) FROM h;",
+        "refused: not linear 3:18\n",
+    )?;
+    query_refused(
+        &rt,
+        alloc,
+        "TABLE t (a INT, p INT);\nHYPO h FROM t SET a IN 0 .. 1;\nMAXIMIZE SUM(p * a) FROM h;",
+        "refused: not built q\n",
     )
 }
 

@@ -2,7 +2,7 @@ use Rattle.std.proofs.Common.{◌≡◌, ℕ, List, length, ap, sym, ◌∙◌, 
 use Rattle.std.specs.Prelude.{Some, IfOk, IfSome, map, string_bytes}
 use Rattle.outside_io.specs.Shelves.{Contents}
 use Rattle.tiresias_core.specs.FirstTrees.{IsFirstText}
-use Rattle.tiresias_core.proofs.FirstReading.{first_text-query}
+use Rattle.tiresias_core.proofs.FirstAsked.{first_text-query}
 use Rattle.std.specs.List.{All}
 use Rattle.first_listing.specs.Parts.{Answers}
 use Rattle.tables_csv.specs.Tables.{IsFirstTable, HasNumbers}
