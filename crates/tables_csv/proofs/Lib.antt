@@ -1,8 +1,16 @@
+mod ChainLemmas
 pub mod Fields
 pub mod FirstTables
+mod HeaderLemmas
+mod KeyLemmas
 pub mod Lines
 pub mod Numerals
+mod Passing
 pub mod Plain
 pub mod Readings
 pub mod Rows
+mod TableRows
+mod ValueLemmas
+mod WholeReading
+mod WholeWritten
 pub mod Written

@@ -1,7 +1,7 @@
 //! Rows found again by their keys. Rows whose keys have equal hashes hang together in chains, so that a key is compared
 //! with few others. A link is 0 at the end of a chain, and else the number of a row, from 1.
-ghost use Rattle.std.specs.Prelude.{◌≡◌, ◌↔◌, ◌<◌, ◌++◌, ◌∷◌, [], length, IfOk, IsTrue, MatchOption, option_copied};
-ghost use Rattle.tables_csv.specs.Chains.{AreKeysOf, Sought};
+ghost use Rattle.std.specs.Prelude.{◌≡◌, ◌↔◌, ◌<◌, ◌+◌, ◌^◌, ◌++◌, ◌∷◌, [], length, IfOk, OnOk, IsTrue, MatchOption, option_copied};
+ghost use Rattle.tables_csv.specs.Chains.{AreKeysOf, AreLinked, Linked, Sought};
 ghost use Rattle.tables_csv.specs.Hashes.{hash_of};
 ghost use Rattle.tables_csv.specs.Keys.{key_of, HasKeyOf, HasNewKey};
 
@@ -53,41 +53,73 @@ impl Keys {
             return Ok(None);
         }
         let hash = hash(key, row);
-        let earlier = self.seek(key, rows, row, hash);
+        let earlier = seek(
+            key,
+            rows,
+            row,
+            hash,
+            self.hashes.as_slice(),
+            self.links.as_slice(),
+            self.heads.as_slice(),
+        );
         if earlier != 0 {
             return Ok(Some(earlier));
         }
-        self.append(rows.len() as u32, hash)?;
+        append(
+            hash,
+            &mut self.hashes,
+            &mut self.links,
+            self.heads.as_mut_slice(),
+        )?;
         Ok(None)
     }
+}
 
-    // The number of the row with this row's key, or 0 where there is none.
-    fn seek(&self, key: &[u32], rows: &[Row], row: &Row, hash: u32) -> u32
-        requires keys { AreKeysOf key.now rows.now self.now }
-        requires some { 0 < length key.now }
-        requires hash { hash ≡ hash_of (key_of key.now row.now) }
-        ensures { Sought key.now rows.now (key_of key.now row.now) result }
-    {
-        let mut link = self.heads[hash as usize % self.heads.len()];
-        'chain: while link != 0 {
-            let at = link as usize - 1;
-            if self.hashes[at] == hash && has_same_key(key, &rows[at], row) {
-                return link;
-            }
-            link = self.links[at];
+// The number of the row that has this row's key, or 0 where none has it.
+fn seek(
+    key: &[u32],
+    rows: &[Row],
+    row: &Row,
+    hash: u32,
+    hashes: &[u32],
+    links: &[u32],
+    heads: &[u32],
+) -> u32
+    requires linked { AreLinked key.now rows.now hashes.now links.now heads.now }
+    requires hash { hash ≡ hash_of (key_of key.now row.now) }
+    ensures { Sought key.now rows.now (key_of key.now row.now) result }
+{
+    let mut link = heads[hash as usize % heads.len()];
+    'chain: while link != 0 {
+        let at = link as usize - 1;
+        if hashes[at] == hash && has_same_key(key, &rows[at], row) {
+            return link;
         }
-        0
+        link = links[at];
     }
+    0
+}
 
-    // Adds a row with this hash behind so many rows.
-    fn append(&mut self, count: u32, hash: u32) -> Result<(), Memory>
-    {
-        let chain = hash as usize % self.heads.len();
-        self.hashes.push(hash)?;
-        self.links.push(self.heads[chain])?;
-        self.heads[chain] = count + 1;
-        Ok(())
-    }
+// Puts one more row at the head of the chain of its hash.
+fn append(
+    hash: u32,
+    hashes: &mut Vec<u32>,
+    links: &mut Vec<u32>,
+    heads: &mut [u32],
+) -> Result<(), Memory>
+    requires linked { Linked (length hashes.old.items) hashes.old.items links.old.items heads.old }
+    requires links { length links.old.items ≡ length hashes.old.items }
+    requires few { length hashes.old.items < 2 ^ 31 }
+    ensures hashes { OnOk result (hashes.new.items ≡ hashes.old.items ++ hash ∷ []) }
+    ensures links { OnOk result (length links.new.items ≡ length hashes.old.items + 1) }
+    ensures linked { OnOk result (Linked (length hashes.old.items + 1) hashes.new.items links.new.items heads.new) }
+{
+    let chain = hash as usize % heads.len();
+    let number = hashes.len() as u32 + 1;
+    hashes.push(hash)?;
+    links.push(heads[chain])?;
+    heads[chain] = number;
+    Ok(())
 }
 
 // Whether two rows have equal values in the columns of the key.

@@ -1,6 +1,7 @@
 //! A record as a row of a table: a value for each column.
-ghost use Rattle.std.specs.Prelude.{◌≡◌, ◌≢◌, ◌<◌, ◌^◌, length, IfOk, IfErr};
+ghost use Rattle.std.specs.Prelude.{◌≡◌, ◌≢◌, ◌<◌, ◌^◌, true, length, IfOk, IfErr};
 ghost use Rattle.csv.specs.Records.{fields_of};
+ghost use Rattle.tiql_query.specs.declared.relation.Column.{Column};
 ghost use Rattle.tables_csv.specs.Values.{AreValues, IsFieldFault, IsRowFault, IsValue};
 
 use crate::TableFault;
@@ -57,8 +58,10 @@ fn value_of(
     }
 }
 
-// The text of the field at this row and column.
+// The text of the field at this row and column, in a column of texts.
 fn text_of(alloc: Global, field: &[u8], row: u32, column: u32) -> Result<Value, TableFault>
+    ensures value { IfOk result (λ value. (it : Column) → it.text ≡ true → IsValue it field.now value) }
+    ensures fault { IfErr result (λ told. told ≢ TableFault.Memory → (it : Column) → it.text ≡ true → IsFieldFault it field.now row column told) }
 {
     let Ok(text) = str::from_utf8(field) else {
         return Err(TableFault::NotUtf8 { row, column });
