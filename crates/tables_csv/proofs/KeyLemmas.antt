@@ -30,6 +30,10 @@ pub hash_all : (key : List ℕ) (row : List Value) (i hash : ℕ) → length key
 hash_all key row i hash end is = rw (take_all i key end) at is
 
 -- keys that are equal so far
+pub same_none : (one other : List Value) → key_of [] one ≡ key_of [] other
+unfolding key_of
+same_none one other = refl
+
 pub same_more : (key : List ℕ) (one other : List Value) (i : ℕ) → i < length key → key_of (take i key) one ≡ key_of (take i key) other
     → slice_get one (get_or key i 0) ≡ slice_get other (get_or key i 0) → key_of (take (i + 1) key) one ≡ key_of (take (i + 1) key) other
 same_more key one other i lt front here =
