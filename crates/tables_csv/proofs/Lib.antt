@@ -5,9 +5,11 @@ mod HeaderLemmas
 mod KeyLemmas
 pub mod Lines
 pub mod Numerals
+pub mod Outcomes
 mod Passing
 pub mod Plain
 pub mod Readings
+mod Refusals
 pub mod Rows
 mod TableRows
 mod ValueLemmas

@@ -1,6 +1,7 @@
 //! Reading a table.
 ghost use Rattle.std.specs.Prelude.{◌≡◌, ◌≢◌, ◌<◌, ◌^◌, ◌↔◌, ℕ, [], ◌∷◌, List, length, IfOk, IfErr, OnOk, IsErrOf, IsTrue};
 ghost use Rattle.csv.specs.Records.{fields_of};
+ghost use Rattle.base_kit.specs.declared.value.Value.{Value};
 ghost use Rattle.tables_csv.specs.Passes.{GivesFault, GivesRows, TakesHeader};
 ghost use Rattle.tables_csv.specs.Records.{IsOpen};
 ghost use Rattle.tables_csv.specs.WholeTables.{IsFirstFault, IsTableOf, names_of};
@@ -17,6 +18,9 @@ use tiql_query::{Column, QTable};
 /// The most rows of a table (docs/TABLES.md).
 pub const MOST_ROWS: usize = 200_000;
 
+// The most columns that 32 bits number.
+const MOST_COLUMNS: usize = 4_294_967_295;
+
 /// The rows of a table, where the bytes are one, or the first fault in them (docs/TABLES.md, "Refusals"). `Memory` may
 /// come for any bytes.
 pub fn read_table(
@@ -24,10 +28,14 @@ pub fn read_table(
     bytes: &[u8],
     table: &QTable,
 ) -> Result<List<Row>, TableFault>
-    requires { length table.now.columns < 2 ^ 32 }
     ensures table { IfOk result (λ rows. IsTableOf bytes.now table.now rows) }
     ensures fault { IfErr result (λ told. told ≢ TableFault.Memory → IsFirstFault bytes.now table.now told) }
+    ensures no_table { IfErr result (λ told. told ≢ TableFault.Memory → (rows : List (List Value)) → IsTableOf bytes.now table.now rows → ⊥) }
 {
+    // A fault tells the number of a column in 32 bits, and no memory holds more columns than that.
+    if table.columns.len() > MOST_COLUMNS {
+        return Err(TableFault::Memory);
+    }
     let text = without_mark(bytes);
     if is_marked(text) {
         return Err(TableFault::Header);

@@ -3,7 +3,7 @@
 use crate::{
     FirstTableFault, TableFault, first_table_text, read_first_table, read_table, table_text,
 };
-use base_kit::{List, Name, Row, Txt, Value};
+use base_kit::{List, Name, Value};
 use std::alloc::Global;
 use std::process::Abort;
 use std::test::Fail;
@@ -124,173 +124,116 @@ fn texts(rt: HostRuntime) -> Result<(), Fail> {
     Ok(())
 }
 
-// A table of these columns, each a name and whether texts stand in it, with a key.
-fn declared(alloc: Global, columns: &[(&str, bool)], key: &[u32]) -> Result<QTable, Fail> {
-    let mut made = List::new(alloc);
-    for (name, text) in columns {
-        made.push(Column {
+// `TABLE item (id INT, name TEXT, qty INT) KEY (id)`.
+fn items(alloc: Global) -> Result<QTable, Fail> {
+    let mut columns = List::new(alloc);
+    for (name, text) in [("id", false), ("name", true), ("qty", false)] {
+        columns.push(Column {
             name: Name::new(alloc, name)?,
-            text: *text,
+            text,
             unknown: false,
         })?;
     }
     Ok(QTable {
         name: Name::new(alloc, "item")?,
-        columns: made,
-        key: List::from_slice(alloc, key)?,
+        columns,
+        key: List::from_slice(alloc, &[0])?,
     })
 }
 
-// `TABLE item (id INT, price INT, qty INT) KEY (id)`.
-fn items(alloc: Global) -> Result<QTable, Fail> {
-    declared(alloc, &[("id", false), ("price", false), ("qty", false)], &[0])
-}
-
-// `TABLE item (id INT, name TEXT, qty INT)`.
-fn named_items(alloc: Global) -> Result<QTable, Fail> {
-    declared(alloc, &[("id", false), ("name", true), ("qty", false)], &[])
-}
-
-// The bytes are refused so.
-fn refused(
+// The bytes are so many rows of items, or are refused so.
+fn ends(
     rt: &impl Abort,
     alloc: Global,
-    table: &QTable,
     bytes: &[u8],
-    wanted: TableFault,
+    wanted: Result<usize, TableFault>,
 ) -> Result<(), Fail> {
-    match read_table(alloc, bytes, table) {
-        Ok(_) => assert!(rt; false, "{bytes:?} is read"),
-        Err(fault) => assert_eq!(rt; fault, wanted),
-    }
+    let found = read_table(alloc, bytes, &items(alloc)?).map(|rows| rows.len());
+    assert_eq!(rt; found, wanted, "of {bytes:?}");
     Ok(())
 }
 
-// A row of a number, a text and a number.
-fn named_item(alloc: Global, id: i64, name: &str, qty: i64) -> Result<Row, Fail> {
-    let mut row = List::new(alloc);
-    row.push(Value::Int(id))?;
-    row.push(Value::Text(Txt::new(alloc, name)?))?;
-    row.push(Value::Int(qty))?;
-    Ok(row)
+// The bytes are items, which are written so.
+fn writes(rt: &impl Abort, alloc: Global, bytes: &[u8], wanted: &[u8]) -> Result<(), Fail> {
+    let table = items(alloc)?;
+    let rows = read_table(alloc, bytes, &table)?;
+    let text = table_text(alloc, &table.columns, &rows)?;
+    assert!(rt; text.as_slice() == wanted);
+    Ok(())
 }
 
 #[test]
 fn spreadsheet(rt: HostRuntime) -> Result<(), Fail> {
     let alloc = rt.alloc();
-    let table = named_items(alloc)?;
-    let bytes = b"\xef\xbb\xbfid,name,qty\r\n1,\"a,b\",2\r\n2,\"c\nd\",3\r\n";
-    let rows = read_table(alloc, bytes, &table)?;
-    assert_eq!(rt; rows.len(), 2);
-    assert!(rt; rows.as_slice()[0].as_slice() == named_item(alloc, 1, "a,b", 2)?.as_slice());
-    assert!(rt; rows.as_slice()[1].as_slice() == named_item(alloc, 2, "c\nd", 3)?.as_slice());
-    let text = table_text(alloc, &table.columns, &rows)?;
-    let wanted = b"id,name,qty\n1,\"a,b\",2\n2,\"c\nd\",3\n";
-    assert!(rt; text.as_slice() == wanted.as_slice());
-    Ok(())
+    writes(
+        &rt,
+        alloc,
+        b"\xef\xbb\xbfid,name,qty\r\n1,\"a,b\",2\r\n2,\"c\nd\",3\r\n",
+        b"id,name,qty\n1,\"a,b\",2\n2,\"c\nd\",3\n",
+    )?;
+    writes(
+        &rt,
+        alloc,
+        b"\"id\",name,qty\n\n 07 ,, +1\n-1,\"x\"\"y\", 1000000000000000",
+        b"id,name,qty\n7,,1\n-1,\"x\"\"y\",1000000000000000\n",
+    )
 }
 
 #[test]
 fn refusals(rt: HostRuntime) -> Result<(), Fail> {
     let alloc = rt.alloc();
-    let table = items(alloc)?;
-    let ragged = TableFault::Ragged { row: 1 };
-    let bad = TableFault::BadNumber { row: 1, column: 3 };
-    let same = TableFault::SameKey { row: 4, earlier: 2 };
-    let headed = b"id,price,qty\n1,3,5\n2,2,7\n3,1,1\n2,1,1\n";
-    refused(&rt, alloc, &table, headed, same)?;
-    let great = b"id,price,qty\n1,3,1000000000000001\n2,2,7\n";
-    refused(&rt, alloc, &table, great, bad)?;
-    refused(&rt, alloc, &table, b"id,price,qty\n1,3\n2,2,7\n", ragged)?;
-    refused(&rt, alloc, &table, b"id,price,qty\n1,3,\t5\n", bad)?;
-    let greatest = b"id,price,qty\n1,3,1000000000000000\n2,2,7\n";
-    assert_eq!(rt; read_table(alloc, greatest, &table)?.len(), 2);
-    Ok(())
+    let header = Err(TableFault::Header);
+    ends(&rt, alloc, b"", header)?;
+    ends(&rt, alloc, b"id,qty,name\n", header)?;
+    ends(&rt, alloc, b"\xef\xbb\xbf\xef\xbb\xbfid,name,qty\n", header)?;
+    ends(&rt, alloc, b"\xef\xbb\xbfid,name,qty", Ok(0))?;
+    let ragged = Err(TableFault::Ragged { row: 1 });
+    ends(&rt, alloc, b"id,name,qty\n1,3\n2,2,7\n", ragged)?;
+    let bad = Err(TableFault::BadNumber { row: 1, column: 3 });
+    ends(&rt, alloc, b"id,name,qty\n1,3,1000000000000001\n2\n", bad)?;
+    ends(&rt, alloc, b"id,name,qty\n1,3,\t1\n2\n", bad)?;
+    let wrong = Err(TableFault::NotUtf8 { row: 2, column: 2 });
+    ends(&rt, alloc, b"id,name,qty\n1,3,1\n2,\xff,x\n1,3,1\n", wrong)?;
+    let same = Err(TableFault::SameKey { row: 4, earlier: 2 });
+    ends(&rt, alloc, b"id,name,qty\n1,3,5\n2,2,7\n3,1,1\n2,1,1\nx\n", same)
 }
 
-#[test]
-fn headers(rt: HostRuntime) -> Result<(), Fail> {
-    let alloc = rt.alloc();
-    let table = items(alloc)?;
-    let header = TableFault::Header;
-    refused(&rt, alloc, &table, b"", header)?;
-    refused(&rt, alloc, &table, b"id,qty,price\n", header)?;
-    let twice = b"\xef\xbb\xbf\xef\xbb\xbfid,price,qty\n";
-    refused(&rt, alloc, &table, twice, header)?;
-    let once = b"\xef\xbb\xbfid,price,qty";
-    assert_eq!(rt; read_table(alloc, once, &table)?.len(), 0);
-    Ok(())
+// The header of items and a row whose name has so many bytes.
+fn long_name(alloc: Global, bytes: usize) -> Result<String, Fail> {
+    let mut text = String::from_str(alloc, "id,name,qty\n1,")?;
+    for _ in 0..bytes {
+        text.push_str("n")?;
+    }
+    text.push_str(",1\n")?;
+    Ok(text)
 }
 
 #[test]
 fn names(rt: HostRuntime) -> Result<(), Fail> {
     let alloc = rt.alloc();
-    let table = named_items(alloc)?;
-    let wrong = TableFault::NotUtf8 { row: 2, column: 2 };
-    let bytes = b"id,name,qty\n1,a,1\n2,\xff,x\n3\n";
-    refused(&rt, alloc, &table, bytes, wrong)?;
-    let long = TableFault::TooLongText { row: 1, column: 2 };
-    let mut text = String::from_str(alloc, "id,name,qty\n1,")?;
-    for _ in 0..1000 {
-        text.push_str("n")?;
-    }
-    let mut longer = text.clone()?;
-    text.push_str(",1\n")?;
-    assert_eq!(rt; read_table(alloc, text.as_bytes(), &table)?.len(), 1);
-    longer.push_str("n,1\n")?;
-    refused(&rt, alloc, &table, longer.as_bytes(), long)
+    let longest = long_name(alloc, 1000)?;
+    ends(&rt, alloc, longest.as_bytes(), Ok(1))?;
+    let longer = long_name(alloc, 1001)?;
+    let long = Err(TableFault::TooLongText { row: 1, column: 2 });
+    ends(&rt, alloc, longer.as_bytes(), long)
 }
 
-// The text of a table of one column and so many rows.
-fn many_rows(alloc: Global, rows: usize) -> Result<String, Fail> {
-    let mut text = String::from_str(alloc, "n\n")?;
-    for _ in 0..rows {
-        text.push_str("7\n")?;
-    }
-    Ok(text)
-}
-
-#[test]
-fn too_many_rows(rt: HostRuntime) -> Result<(), Fail> {
-    let alloc = rt.alloc();
-    let table = declared(alloc, &[("n", false)], &[])?;
-    let mut text = many_rows(alloc, 200_000)?;
-    assert_eq!(rt; read_table(alloc, text.as_bytes(), &table)?.len(), 200_000);
-    text.push_str("x,x\n")?;
-    refused(&rt, alloc, &table, text.as_bytes(), TableFault::TooManyRows)
-}
-
-// A text of so many rows in which each has a key of its own but the last, which has the first row's.
-fn keyed_rows(alloc: Global, rows: usize) -> Result<String, Fail> {
-    let mut text = String::from_str(alloc, "a,b\n")?;
+// So many items, and a line that is no row.
+fn many_items(alloc: Global, rows: usize) -> Result<String, Fail> {
+    let mut text = String::from_str(alloc, "id,name,qty\n")?;
     for row in 0..rows {
-        let high = row / 100;
-        let low = row % 100;
-        text.push_str(format!(in alloc; "{high},t{low}\n")?.as_str())?;
+        text.push_str(format!(in alloc; "{row},,0\n")?.as_str())?;
     }
-    text.push_str("0,t0\n")?;
+    text.push_str("x\n")?;
     Ok(text)
 }
 
 #[test]
-fn keys(rt: HostRuntime) -> Result<(), Fail> {
+fn many_rows(rt: HostRuntime) -> Result<(), Fail> {
     let alloc = rt.alloc();
-    let table = declared(alloc, &[("a", false), ("b", true)], &[1, 0])?;
-    let text = keyed_rows(alloc, 1000)?;
-    let same = TableFault::SameKey {
-        row: 1001,
-        earlier: 1,
-    };
-    refused(&rt, alloc, &table, text.as_bytes(), same)
-}
-
-#[test]
-fn empty_text(rt: HostRuntime) -> Result<(), Fail> {
-    let alloc = rt.alloc();
-    let table = declared(alloc, &[("name", true)], &[])?;
-    let rows = read_table(alloc, b"name\n\"\"\n\nb", &table)?;
-    assert_eq!(rt; rows.len(), 2);
-    let text = table_text(alloc, &table.columns, &rows)?;
-    assert!(rt; text.as_slice() == b"name\n\"\"\nb\n".as_slice());
-    Ok(())
+    let full = many_items(alloc, 200_000)?;
+    ends(&rt, alloc, full.as_bytes(), Err(TableFault::TooManyRows))?;
+    let fewer = many_items(alloc, 199_999)?;
+    let ragged = Err(TableFault::Ragged { row: 200_000 });
+    ends(&rt, alloc, fewer.as_bytes(), ragged)
 }
