@@ -23,11 +23,7 @@ const MOST_COLUMNS: usize = 4_294_967_295;
 
 /// The rows of a table, where the bytes are one, or the first fault in them (docs/TABLES.md, "Refusals"). `Memory` may
 /// come for any bytes.
-pub fn read_table(
-    alloc: Global,
-    bytes: &[u8],
-    table: &QTable,
-) -> Result<List<Row>, TableFault>
+pub fn read_table(alloc: Global, bytes: &[u8], table: &QTable) -> Result<List<Row>, TableFault>
     ensures table { IfOk result (λ rows. IsTableOf bytes.now table.now rows) }
     ensures fault { IfErr result (λ told. told ≢ TableFault.Memory → IsFirstFault bytes.now table.now told) }
     ensures no_table { IfErr result (λ told. told ≢ TableFault.Memory → (rows : List (List Value)) → IsTableOf bytes.now table.now rows → ⊥) }

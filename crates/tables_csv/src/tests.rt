@@ -195,7 +195,12 @@ fn refusals(rt: HostRuntime) -> Result<(), Fail> {
     let wrong = Err(TableFault::NotUtf8 { row: 2, column: 2 });
     ends(&rt, alloc, b"id,name,qty\n1,3,1\n2,\xff,x\n1,3,1\n", wrong)?;
     let same = Err(TableFault::SameKey { row: 4, earlier: 2 });
-    ends(&rt, alloc, b"id,name,qty\n1,3,5\n2,2,7\n3,1,1\n2,1,1\nx\n", same)
+    ends(
+        &rt,
+        alloc,
+        b"id,name,qty\n1,3,5\n2,2,7\n3,1,1\n2,1,1\nx\n",
+        same,
+    )
 }
 
 // The header of items and a row whose name has so many bytes.

@@ -47,10 +47,7 @@ pub fn table_text(
     ensures table { IfOk result (λ bytes. (table : QTable) → table.columns ≡ columns.now → 0 < length columns.now → AreRowsOf table rows.now → IsTableOf bytes table rows.now) }
 {
     let mut writer = WriterBuilder::new().from_writer(Vec::new(alloc));
-    put(
-        &mut writer,
-        &column_fields(alloc, columns.as_slice())?,
-    )?;
+    put(&mut writer, &column_fields(alloc, columns.as_slice())?)?;
     for row in rows.as_slice() {
         put(&mut writer, &value_fields(alloc, row.as_slice())?)?;
     }

@@ -6,7 +6,7 @@ pub returns-then-not-is_same : goal.returns-then-not-is_same
 returns-then-not-is_same c = (
   (λ no. cc),
   (λ same. absurd (other_keys c.args.key.now c.args.one.now c.args.other.now c.loop-column.column-index (omega arith)
-  (λ e. true≢false (sym (c.if-not-is_same.ensures.1 (c.get.ensures.value ∙ e ∙ sym c.get-in-loop-column.ensures.value)))) same)),
+      (λ e. true≢false (sym (c.if-not-is_same.ensures.1 (c.get.ensures.value ∙ e ∙ sym c.get-in-loop-column.ensures.value)))) same)),
 )
 
 pub loop-column-init : goal.loop-column-init

@@ -7,7 +7,7 @@ pub returns-then-ne : goal.returns-then-ne
 returns-then-ne c = (
   (λ no. cc),
   (λ same. absurd (other_names _ _ _ _ _ _ _ c.get.ensures.value c.ne.ensures c.if-ne.true (name_there c.args.columns.now c.loop-at.at (omega arith)) (c.as_bytes.ensures.value ∙ c.as_str.ensures.text)
-  (name_at c.args.columns.now c.loop-at.at c.index-columns-at.result (omega arith) c.index-columns-at.is) same)),
+      (name_at c.args.columns.now c.loop-at.at c.index-columns-at.result (omega arith) c.index-columns-at.is) same)),
 )
 
 pub loop-at-preserved : goal.loop-at-preserved
