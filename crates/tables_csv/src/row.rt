@@ -27,7 +27,7 @@ pub(crate) fn row_of(
     if fields.len() != columns.len() {
         return Err(TableFault::Ragged { row });
     }
-    let mut values = List::new(alloc);
+    let mut values = List::from_vec(Vec::with_capacity(alloc, columns.len())?);
     for field in fields.iter() {
         let at = values.len();
         values.push(value_of(alloc, field, &columns[at], row, at as u32 + 1)?)?;

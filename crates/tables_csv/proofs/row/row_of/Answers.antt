@@ -26,7 +26,7 @@ overflow_add-at c =
 
 pub returns-in_err-value_of-clause-fault : goal.returns-in_err-value_of-clause-fault
 returns-in_err-value_of-clause-fault c =
-    let p = err_from_is_err_and c.from_residual.result c.from_residual.ensures.1 in
+    let p = err_from_is_err_and c.from_residual-in_err-value_of.result c.from_residual-in_err-value_of.ensures.1 in
     rw (p.1, p.2) (λ ne. values_stuck c.args.columns.now (fields_of c.args.fields.now) c.loop-field.values c.loop-field.field-iterator.at c.len-at.result c.args.row _ c.index-columns-at.result _ _
     (rw c.loop-field.invariant.whole at c.in-Some.ensures.steps.1) (omega arith) (omega arith) (omega arith) c.index-columns-at.is c.loop-field.invariant.front (c.in_err-value_of.ensures.fault ne))
 
