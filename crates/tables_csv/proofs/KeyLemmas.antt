@@ -1,11 +1,11 @@
 -- the keys of rows: their hashes, their comparison, and one more row among them
-use Rattle.std.proofs.Common.{◌≡◌, ◌≢◌, ◌∙◌, ◌+◌, ◌<◌, ◌≤◌, ◌++◌, ◌-◌, ◌%◌, ℕ, zero, suc, List, [], ◌∷◌, Option, Some, None, ap, refl, sym, subst, inl, inr, arith, length, length-append, get_or, take, map, slice_set, slice_index}
+use Rattle.std.proofs.Common.{◌≡◌, ◌≢◌, ◌∙◌, ◌+◌, ◌<◌, ◌≤◌, ◌++◌, ℕ, zero, suc, List, [], ◌∷◌, Option, ap, refl, sym, subst, inl, inr, arith, length, length-append, get_or, take, map, slice_index}
 use Rattle.std.proofs.lemmas.Bool.{cases_lt}
 use Rattle.std.proofs.lemmas.List.{get_or_append_left, get_or_push, get_or_read, map-append, take_all, take_more}
 use Rattle.std.proofs.lemmas.List.Sums.{fold-append}
 use Rattle.std.specs.Prelude.{fold, slice_get}
 use Rattle.base_kit.specs.declared.value.Value.{Value}
-use Rattle.tables_csv.specs.Chains.{AreKeysOf, AreLinked, Linked, Sought}
+use Rattle.tables_csv.specs.Chains.{AreLinked, Linked, Sought}
 use Rattle.tables_csv.specs.Hashes.{hash_of, mixed_entry}
 use Rattle.tables_csv.specs.Keys.{HasKeyOf, HasNewKey, HaveDistinctKeys, key_at, key_of}
 

@@ -1,8 +1,8 @@
 -- bytes are one table or have one first fault, and never both
-use Rattle.std.proofs.Common.{◌≡◌, ◌≢◌, ◌∙◌, ◌+◌, ◌++◌, ◌⊎◌, ℕ, suc, true, false, List, [], ◌∷◌, Option, Some, None, ap, append_assoc, refl, sym, subst, inl, inr, arith, true≢false, length, length-append}
+use Rattle.std.proofs.Common.{◌≡◌, ◌∙◌, ◌++◌, ◌⊎◌, ℕ, true, List, [], ◌∷◌, ap, append_assoc, refl, sym, subst, inl, inr, arith, true≢false, length, length-append}
 use Rattle.std.proofs.lemmas.List.Elements.{All-cons, All-nil}
 use Rattle.std.specs.List.{All, AllZip}
-use Rattle.csv.specs.Machine.{Read, next_record}
+use Rattle.csv.specs.Machine.{Read}
 use Rattle.csv.specs.Reading.{AreRecords, Reached, default_config}
 use Rattle.csv.specs.declared.parser.Config.{Config}
 use Rattle.csv.specs.declared.parser.State.{State}
@@ -16,7 +16,7 @@ use Rattle.tables_csv.proofs.Readings.{records_more, records_one}
 use Rattle.tables_csv.proofs.Refusals.{given_one, no_fault_inside, record_fault_one, values_count}
 use Rattle.tables_csv.specs.Tables.{is_marked}
 use Rattle.tables_csv.specs.Values.{AreValues}
-use Rattle.tables_csv.specs.WholeTables.{AreRows, BeginsWith, FaultsInRecord, IsFirstFault, IsRecordFault, IsTableOf, names_of, without_mark}
+use Rattle.tables_csv.specs.WholeTables.{BeginsWith, FaultsInRecord, IsFirstFault, IsRecordFault, IsTableOf, names_of, without_mark}
 
 same_tail : {A : Type 0} (x y : A) (xs ys : List A) → x ∷ xs ≡ y ∷ ys → xs ≡ ys
 same_tail x y xs ys e = cc

@@ -2,7 +2,7 @@
 use Rattle.std.proofs.Common.{◌≡◌, ◌∙◌, ◌++◌, ℕ, Bool, true, false, List, [], ◌∷◌, Option, Some, Bor, ap, refl, subst, sym}
 use Rattle.csv.proofs.ReadFacts.{reached-more, rows-end, rows-more}
 use Rattle.csv.specs.Machine.{Read, next_record}
-use Rattle.csv.specs.Reading.{AreRecords, Reached, ReadRecord, default_config, reader_state, source_of}
+use Rattle.csv.specs.Reading.{Reached, ReadRecord, default_config, reader_state}
 use Rattle.csv.specs.declared.parser.State.{State}
 use Rattle.csv.specs.declared.reader.Reader.{Reader}
 use Rattle.tables_csv.proofs.Readings.{records_end, records_ended}

@@ -1,9 +1,8 @@
 -- the rows of a table, one after another, and the first record that gives none
-use Rattle.std.proofs.Common.{◌≡◌, ◌≢◌, ◌∙◌, ◌+◌, ◌<◌, ◌≤◌, ◌++◌, ℕ, suc, List, [], ◌∷◌, Bor, ap, refl, sym, subst, arith, length, length-append}
+use Rattle.std.proofs.Common.{◌≡◌, ◌+◌, ◌<◌, ◌++◌, ℕ, List, [], ◌∷◌, Bor, arith, length, length-append}
 use Rattle.std.specs.List.{AllZip}
 use Rattle.csv.specs.declared.reader.Reader.{Reader}
 use Rattle.base_kit.specs.declared.value.Value.{Value}
-use Rattle.tiql_query.specs.declared.relation.Column.{Column}
 use Rattle.tiql_query.specs.declared.relation.QTable.{QTable}
 use Rattle.tables_csv.specs.declared.fault.TableFault.{TableFault}
 use Rattle.tables_csv.specs.declared.fault.TableFault.TheVariants as fault

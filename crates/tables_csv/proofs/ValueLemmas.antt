@@ -1,10 +1,9 @@
 -- the values of a record's fields, one after another
-use Rattle.std.proofs.Common.{◌≡◌, ◌∙◌, ◌+◌, ◌<◌, ◌≤◌, ◌++◌, ℕ, zero, suc, true, false, List, [], ◌∷◌, Option, Some, None, ap, refl, sym, subst, arith, length, get_or, take}
+use Rattle.std.proofs.Common.{◌≡◌, ◌+◌, ◌<◌, ◌++◌, ℕ, zero, suc, List, [], ◌∷◌, Option, Some, None, refl, sym, arith, length, get_or, take}
 use Rattle.std.proofs.lemmas.List.{take_all}
 use Rattle.std.proofs.lemmas.Option.{slice_get_read}
 use Rattle.csv.specs.Records.{field_at}
 use Rattle.base_kit.specs.declared.value.Value.{Value}
-use Rattle.base_kit.specs.declared.value.Value.TheVariants.{Int, Text}
 use Rattle.tiql_query.specs.declared.relation.Column.{Column}
 use Rattle.tables_csv.specs.declared.fault.TableFault.{TableFault}
 use Rattle.tables_csv.specs.declared.fault.TableFault.TheVariants as fault

@@ -1,5 +1,5 @@
 -- what is written of a table, and that it is read again
-use Rattle.std.proofs.Common.{◌≡◌, ◌∙◌, ◌<◌, ◌≤◌, ◌++◌, ℕ, Bool, false, cond, List, [], ◌∷◌, ap, refl, sym, subst, arith, drop, length, map, take, IsTrue}
+use Rattle.std.proofs.Common.{◌≡◌, ◌<◌, ◌≤◌, ◌++◌, ℕ, Bool, false, cond, List, [], ◌∷◌, ap, refl, arith, drop, length, map, take, IsTrue}
 use Rattle.std.proofs.lemmas.List.{length-map, take_all}
 use Rattle.std.proofs.lemmas.List.Elements.{recursion_from_All}
 use Rattle.std.specs.List.{All, AllByRecursion, AllZip, flat_map}

@@ -1,5 +1,5 @@
 -- chains of rows whose keys have equal hashes. A link is 0 at the end of a chain, and else the number of a row, from 1
-use Rattle.std.specs.Prelude.{◌≡◌, ◌≢◌, ◌<◌, ◌≤◌, ◌-◌, ◌%◌, ◌^◌, ◌==◌, cond, ℕ, zero, suc, List, length, slice_index, Option}
+use Rattle.std.specs.Prelude.{◌≡◌, ◌≢◌, ◌<◌, ◌≤◌, ◌-◌, ◌%◌, ◌==◌, cond, ℕ, zero, suc, List, length, slice_index, Option}
 use Rattle.base_kit.specs.declared.value.Value.{Value}
 use Rattle.tables_csv.specs.declared.keys.Keys.{Keys}
 use Rattle.tables_csv.specs.Hashes.{hash_of}

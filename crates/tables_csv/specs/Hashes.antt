@@ -1,5 +1,5 @@
 -- hashes of keys
-use Rattle.std.specs.Prelude.{ℕ, ◌+◌, ◌*◌, ◌/◌, ◌%◌, ◌^◌, ℤ, unsigned_abs, List, fold, Option, Some, None}
+use Rattle.std.specs.Prelude.{ℕ, ◌+◌, ◌*◌, ◌/◌, ◌%◌, ℤ, unsigned_abs, List, fold, Option, Some, None}
 use Rattle.base_kit.specs.declared.value.Value.{Value}
 use Rattle.base_kit.specs.declared.value.Value.TheVariants.{Int, Text}
 

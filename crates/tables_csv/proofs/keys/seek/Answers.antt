@@ -1,6 +1,5 @@
 use Rattle.std.proofs.Common.{◌∙◌, ◌-◌, ◌<◌, ap, arith, length, refl, sym, true≢false}
 use Rattle.tables_csv.specs.Hashes.{hash_of}
-use Rattle.tables_csv.specs.Keys.{key_at, key_of}
 use Rattle.tables_csv.proofs.ChainLemmas.{next_falls, seek_begins, seek_goes_on}
 use Rattle.tables_csv.proofs.KeyLemmas.{key_read}
 use Rattle.tables_csv.proofs.keys.seek.Goals as goal

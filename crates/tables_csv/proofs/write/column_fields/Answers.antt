@@ -1,4 +1,4 @@
-use Rattle.std.proofs.Common.{◌≡◌, ◌∙◌, ℕ, List, IsTrue, arith, get_or}
+use Rattle.std.proofs.Common.{◌∙◌, ℕ, List, IsTrue, arith}
 use Rattle.std.proofs.lemmas.List.Elements.{All-more}
 use Rattle.base_kit.specs.Names.{is_name}
 use Rattle.tables_csv.specs.WholeTables.{names_of}
