@@ -8,6 +8,7 @@ use Rattle.csv.specs.declared.parser.Config.{Config}
 use Rattle.csv.specs.declared.parser.State.{State}
 use Rattle.csv.specs.declared.parser.State.TheVariants as state
 use Rattle.base_kit.specs.declared.value.Value.{Value}
+use Rattle.base_kit.specs.declared.value.Value.TheVariants.{Int, Text}
 use Rattle.tiql_query.specs.declared.relation.Column.{Column}
 use Rattle.tiql_query.specs.declared.relation.QTable.{QTable}
 use Rattle.tables_csv.specs.declared.fault.TableFault.{TableFault}
@@ -15,8 +16,9 @@ use Rattle.tables_csv.specs.declared.fault.TableFault.TheVariants as fault
 use Rattle.tables_csv.proofs.Readings.{records_more, records_one}
 use Rattle.tables_csv.proofs.Refusals.{given_one, no_fault_inside, record_fault_one, values_count}
 use Rattle.tables_csv.specs.Tables.{is_marked}
-use Rattle.tables_csv.specs.Values.{AreValues}
+use Rattle.tables_csv.specs.Values.{AreValues, IsValue}
 use Rattle.tables_csv.specs.WholeTables.{BeginsWith, FaultsInRecord, IsFirstFault, IsRecordFault, IsTableOf, names_of, without_mark}
+use Rattle.tables_csv.specs.WholeTexts.{AreRowsOf, IsOfColumn}
 
 same_tail : {A : Type 0} (x y : A) (xs ys : List A) → x ∷ xs ≡ y ∷ ys → xs ≡ ys
 same_tail x y xs ys e = cc
@@ -95,6 +97,30 @@ widths columns (fields ∷ records) (row ∷ rows) each =
 -- each row of a table has a value for each column
 pub table-widths : (bytes : List ℕ) (table : QTable) (rows : List (List Value)) → IsTableOf bytes table rows → All (λ row. length row ≡ length table.columns) rows
 table-widths bytes table rows is = widths table.columns is.records rows is.given.each
+
+-- a table may have its rows
+value_of_column : (column : Column) (field : List ℕ) (value : Value) → IsValue column field value → IsOfColumn column value
+value_of_column column field (Int number) is = (is.0, is.1.size)
+value_of_column column field (Text text) is = (is.0, rw is.1 is.2, rw is.1 is.3)
+
+row_of_columns : (columns : List Column) (fields : List (List ℕ)) (row : List Value) → AreValues columns fields row → AllZip IsOfColumn columns row
+row_of_columns [] [] [] are = tt
+row_of_columns [] [] (value ∷ row) are = absurd are
+row_of_columns [] (field ∷ fields) row are = absurd are
+row_of_columns (column ∷ columns) [] row are = absurd are
+row_of_columns (column ∷ columns) (field ∷ fields) [] are = absurd are
+row_of_columns (column ∷ columns) (field ∷ fields) (value ∷ row) are = (value_of_column column field value are.0, row_of_columns columns fields row are.1)
+
+rows_of_columns : (columns : List Column) (records : List (List (List ℕ))) (rows : List (List Value)) → AllZip (AreValues columns) records rows
+    → All (λ row. AllZip IsOfColumn columns row) rows
+rows_of_columns columns [] [] each = All-nil (λ (row : List Value). AllZip IsOfColumn columns row)
+rows_of_columns columns [] (row ∷ rows) each = absurd each
+rows_of_columns columns (fields ∷ records) [] each = absurd each
+rows_of_columns columns (fields ∷ records) (row ∷ rows) each =
+    All-cons (λ (r : List Value). AllZip IsOfColumn columns r) row rows (row_of_columns columns fields row each.0) (rows_of_columns columns records rows each.1)
+
+pub table-rows : (bytes : List ℕ) (table : QTable) (rows : List (List Value)) → IsTableOf bytes table rows → AreRowsOf table rows
+table-rows bytes table rows is = record { each = rows_of_columns table.columns is.records rows is.given.each; few = is.given.few; keys = is.given.keys }
 
 header_no_fault : (bytes : List ℕ) (table : QTable) (rows : List (List Value)) → IsTableOf bytes table rows → BeginsWith (without_mark bytes) (names_of table.columns ∷ [])
 unfolding Reached
