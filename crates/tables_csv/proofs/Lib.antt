@@ -1,8 +1,18 @@
+mod ChainLemmas
 pub mod Fields
 pub mod FirstTables
+mod HeaderLemmas
+mod KeyLemmas
 pub mod Lines
 pub mod Numerals
+pub mod Outcomes
+mod Passing
 pub mod Plain
 pub mod Readings
+mod Refusals
 pub mod Rows
+mod TableRows
+mod ValueLemmas
+mod WholeReading
+mod WholeWritten
 pub mod Written

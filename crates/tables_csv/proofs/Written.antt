@@ -17,7 +17,7 @@ use Rattle.tables_csv.specs.Texts.{line, row_line, table_text, value_text}
 
 -- ---- the fields of a record
 
-names_plain : (names : List (List ℕ)) → AllByRecursion (λ name. IsTrue (is_name name)) names → ArePlain 64 names
+pub names_plain : (names : List (List ℕ)) → AllByRecursion (λ name. IsTrue (is_name name)) names → ArePlain 64 names
 names_plain [] are = tt
 names_plain (name ∷ names) are = (name_plain name are.0, names_plain names are.1)
 
@@ -100,7 +100,7 @@ pub rows_added : (names : List (List ℕ)) (rows : List (List Value)) (i : ℕ) 
     → row_text default_writer names ++ flat_map (row_text default_writer) (map (map value_text) (take i rows)) ≡ table_text names rows
 rows_added names rows i end some named have = rw (take_all i rows end) (text_is names rows some named have)
 
-unmarked_line : (names : List (List ℕ)) (tail : List ℕ) → AllByRecursion (λ name. IsTrue (is_name name)) names → is_marked (line names ++ tail) ≡ false
+pub unmarked_line : (names : List (List ℕ)) (tail : List ℕ) → AllByRecursion (λ name. IsTrue (is_name name)) names → is_marked (line names ++ tail) ≡ false
 unmarked_line [] tail named = refl
 unmarked_line (name ∷ names) tail named = by_name name names (name_front name named.0) (name_plain name named.0).some
   where

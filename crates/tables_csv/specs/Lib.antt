@@ -1,6 +1,13 @@
+pub mod Chains
+pub mod Hashes
+pub mod Keys
 pub mod Numbers
+pub mod Passes
 pub mod Records
 pub mod Rows
 pub mod Tables
 pub mod Texts
+pub mod Values
+pub mod WholeTables
+pub mod WholeTexts
 pub mod Writers

@@ -1,6 +1,8 @@
-//! Why a first table was not read.
+//! Why a table was not read.
 ghost use Rattle.tables_csv.specs.declared.fault.FirstTableFault.{FirstTableFault};
 ghost use Rattle.tables_csv.specs.declared.fault.FirstTableFault.TheVariants as fault;
+ghost use Rattle.tables_csv.specs.declared.fault.TableFault.{TableFault};
+ghost use Rattle.tables_csv.specs.declared.fault.TableFault.TheVariants as refused;
 ghost use Rattle.std.specs.Prelude.{◌≡◌};
 
 use base_kit::Memory;
@@ -13,6 +15,36 @@ pub enum FirstTableFault {
     /// They are no first table with these columns.
     #[error("no table of whole numbers with these columns and at most 100 rows")]
     NotBuilt,
+    /// There was not enough memory.
+    #[error("out of memory")]
+    Memory,
+}
+
+/// Why bytes were not read as a table: the first thing that is wrong with them (docs/TABLES.md, "Refusals"). Rows and
+/// columns are counted from 1, the rows without the header.
+#[derive(Clone, Copy, Debug, PartialEq, Eq, Error)]
+pub enum TableFault {
+    /// The first record is missing, or it is not the names of the columns in order.
+    #[error("the first record is not the names of the columns")]
+    Header,
+    /// There is a row after the 200,000th.
+    #[error("more than 200000 rows")]
+    TooManyRows,
+    /// The row has another number of fields than there are columns.
+    #[error("row {row} has another number of fields than there are columns")]
+    Ragged { row: u32 },
+    /// The field of a text column is no UTF-8.
+    #[error("row {row}, column {column}: the text is no UTF-8")]
+    NotUtf8 { row: u32, column: u32 },
+    /// The field of a text column has more than 1,000 bytes.
+    #[error("row {row}, column {column}: the text has more than 1000 bytes")]
+    TooLongText { row: u32, column: u32 },
+    /// The field of a column of numbers spells none.
+    #[error("row {row}, column {column}: no whole number from -10^15 to 10^15")]
+    BadNumber { row: u32, column: u32 },
+    /// The row has the key of an earlier row.
+    #[error("row {row} has the key of row {earlier}")]
+    SameKey { row: u32, earlier: u32 },
     /// There was not enough memory.
     #[error("out of memory")]
     Memory,
@@ -31,5 +63,21 @@ impl From<AllocError> for FirstTableFault {
 
     fn from(_fault: AllocError) -> FirstTableFault {
         FirstTableFault::Memory
+    }
+}
+
+impl From<Memory> for TableFault {
+    ghost from_gives = { λ _ told. told ≡ refused.Memory };
+
+    fn from(_fault: Memory) -> TableFault {
+        TableFault::Memory
+    }
+}
+
+impl From<AllocError> for TableFault {
+    ghost from_gives = { λ _ told. told ≡ refused.Memory };
+
+    fn from(_fault: AllocError) -> TableFault {
+        TableFault::Memory
     }
 }

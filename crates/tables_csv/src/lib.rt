@@ -2,15 +2,20 @@
 #![tactic(auto)]
 
 mod fault;
+mod hash;
+mod keys;
 mod number;
 mod read;
 mod record;
+mod row;
+mod table;
 mod write;
 
-pub use fault::FirstTableFault;
+pub use fault::{FirstTableFault, TableFault};
 pub use number::MOST_NUMBER;
 pub use read::{MOST_FIRST_ROWS, read_first_table};
-pub use write::first_table_text;
+pub use table::{MOST_ROWS, read_table};
+pub use write::{first_table_text, table_text};
 
 #[cfg(test)]
 mod tests;

@@ -1,4 +1,4 @@
-//! Writing a first table.
+//! Writing tables.
 ghost use Rattle.std.specs.Prelude.{◌≡◌, ◌*◌, ◌<◌, ◌≤◌, ◌++◌, [], ℕ, List, map, length, IfOk, OnOk, IsTrue, string_bytes};
 ghost use Rattle.std.specs.List.{All};
 ghost use Rattle.csv.specs.Records.{fields_of};
@@ -6,12 +6,16 @@ ghost use Rattle.csv.specs.Writing.{default_writer, row_text};
 ghost use Rattle.base_kit.specs.Names as names;
 ghost use Rattle.tables_csv.specs.Tables.{HasNumbers, IsFirstTable};
 ghost use Rattle.tables_csv.specs.Texts as spec;
+ghost use Rattle.tables_csv.specs.WholeTables.{IsTableOf, names_of};
+ghost use Rattle.tables_csv.specs.WholeTexts.{AreRowsOf, records_text};
 ghost use Rattle.tables_csv.specs.Writers.{HasWritten};
+ghost use Rattle.tiql_query.specs.declared.relation.QTable.{QTable};
 
 use crate::MOST_FIRST_ROWS;
 use base_kit::{List, Memory, Name, Row, Value};
 use csv::{ByteRecord, Writer, WriterBuilder};
 use std::alloc::Global;
+use tiql_query::Column;
 
 /// The bytes of a first table: a line of the names, then one for each row, with commas between the fields
 /// (docs/TABLES.md, "Writing"). Each row has a number for each column, at most `MOST_NUMBER` on either side of 0.
@@ -29,6 +33,37 @@ pub fn first_table_text(alloc: Global, columns: &[Name], rows: &[Row]) -> Result
         put(&mut writer, &value_fields(alloc, row.as_slice())?)?;
     }
     written(writer)
+}
+
+/// The bytes of a table: a record of the columns' names, then one for each row, as `csv` writes them
+/// (docs/TABLES.md, "Writing"). Each row has a value for each column.
+pub fn table_text(
+    alloc: Global,
+    columns: &List<Column>,
+    rows: &List<Row>,
+) -> Result<List<u8>, Memory>
+    requires { All (λ row. length row ≡ length columns.now) rows.now }
+    ensures text { IfOk result (λ bytes. bytes ≡ records_text columns.now rows.now) }
+    ensures table { IfOk result (λ bytes. (table : QTable) → table.columns ≡ columns.now → 0 < length columns.now → AreRowsOf table rows.now → IsTableOf bytes table rows.now) }
+{
+    let mut writer = WriterBuilder::new().from_writer(Vec::new(alloc));
+    put(&mut writer, &column_fields(alloc, columns.as_slice())?)?;
+    for row in rows.as_slice() {
+        put(&mut writer, &value_fields(alloc, row.as_slice())?)?;
+    }
+    written(writer)
+}
+
+// The names of the columns as the fields of a record.
+fn column_fields(alloc: Global, columns: &[Column]) -> Result<ByteRecord, Memory>
+    ensures fields { IfOk result (λ fields. fields_of fields ≡ names_of columns.now) }
+    ensures names { OnOk result (All (λ name. IsTrue (names.is_name name)) (names_of columns.now)) }
+{
+    let mut fields = ByteRecord::new(alloc);
+    for column in columns {
+        fields.push_field(column.name.as_str().as_bytes())?;
+    }
+    Ok(fields)
 }
 
 // The names as the fields of a record.
