@@ -9,3 +9,6 @@ pub mod FitExprs
 pub mod FitConds
 pub mod FitTables
 pub mod FitSelects
+pub mod FitViews
+pub mod SmallText
+pub mod FitQuery
