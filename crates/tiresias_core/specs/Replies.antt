@@ -48,9 +48,13 @@ fault_line fault.ReadFailed name = codes "refused: read failed " ++ name ++ 10 �
 fault_line fault.TooLong name = codes "refused: too long " ++ name ++ 10 ∷ []
 fault_line fault.NotBuilt name = codes "refused: not built " ++ name ++ 10 ∷ []
 
+-- the line of a query that is refused at a place
+abbrev pub refused_at : List ℕ → Place → List ℕ
+refused_at words place = codes "refused: " ++ words ++ codes " " ++ decimal place.line ++ codes ":" ++ decimal place.column ++ 10 ∷ []
+
 -- the line of a text that is no query, with the place where it stops being one
 abbrev pub syntax_line : Place → List ℕ
-syntax_line place = codes "refused: syntax " ++ decimal place.line ++ codes ":" ++ decimal place.column ++ 10 ∷ []
+syntax_line place = refused_at (codes "syntax") place
 
 -- the words of a rule of soundness
 abbrev pub rule_words : SoundFault → List ℕ
@@ -80,7 +84,7 @@ rule_place rule.Memory = record { line = 0; column = 0 }
 
 -- the line of a query that breaks this rule first, with the place where it does
 abbrev pub unsound_line : SoundFault → List ℕ
-unsound_line fault = codes "refused: " ++ rule_words fault ++ codes " " ++ decimal (rule_place fault).line ++ codes ":" ++ decimal (rule_place fault).column ++ 10 ∷ []
+unsound_line fault = refused_at (rule_words fault) (rule_place fault)
 
 -- the words of a reason
 abbrev pub reason_words : Reject → List ℕ

@@ -116,13 +116,20 @@ fn fault_line(alloc: Global, fault: FileFault, name: &str) -> Result<List<u8>, M
     Ok(List::from_slice(alloc, line.as_bytes())?)
 }
 
+/// The line of a query that is refused at a place.
+fn refused_at(alloc: Global, words: &str, place: Place) -> Result<List<u8>, Memory>
+    ensures { IfOk result (λ text. text ≡ spec.refused_at words.now place) }
+{
+    let Place { line, column } = place;
+    let text = format!(in alloc; "refused: {words} {line}:{column}\n")?;
+    Ok(List::from_slice(alloc, text.as_bytes())?)
+}
+
 /// The line of a text that is no query.
 fn syntax_line(alloc: Global, place: Place) -> Result<List<u8>, Memory>
     ensures { IfOk result (λ text. text ≡ spec.syntax_line place) }
 {
-    let Place { line, column } = place;
-    let text = format!(in alloc; "refused: syntax {line}:{column}\n")?;
-    Ok(List::from_slice(alloc, text.as_bytes())?)
+    refused_at(alloc, "syntax", place)
 }
 
 /// The line of a query that is not sound.
@@ -130,9 +137,7 @@ fn unsound_line(alloc: Global, fault: SoundFault) -> Result<List<u8>, Memory>
     ensures { IfOk result (λ text. text ≡ spec.unsound_line fault) }
 {
     let (words, place) = rule_of(fault)?;
-    let Place { line, column } = place;
-    let text = format!(in alloc; "refused: {words} {line}:{column}\n")?;
-    Ok(List::from_slice(alloc, text.as_bytes())?)
+    refused_at(alloc, words, place)
 }
 
 /// The words of a rule, and where it is broken.

@@ -12,7 +12,12 @@ use Rattle.tiresias_core.specs.Words.{table_path}
 use Rattle.tiresias_core.specs.Forms.{command}
 use Rattle.tiresias_core.specs.declared.fetch.TheConstants.{MOST_FILE_BYTES}
 use Rattle.tiresias_core.specs.Visits.{Visit, Holds, visit}
-use Rattle.tiresias_core.specs.Causes.{IsAudit, KeepsFaults, KeepsStop, TableStops, FileStops, StopsFetch}
+use Rattle.base_kit.specs.declared.place.Place.{Place}
+use Rattle.tiql_check.specs.declared.fault.SoundFault.{SoundFault}
+use Rattle.tiql_tree.specs.Spelled.{IsStop}
+use Rattle.tiresias_core.specs.Asking.{WhyUnasked}
+use Rattle.tiresias_core.specs.declared.ask.Unasked.{Unasked}
+use Rattle.tiresias_core.specs.Causes.{IsUnbuilt, IsUnsound, IsAudit, KeepsFaults, KeepsStop, TableStops, FileStops, StopsFetch}
 use Rattle.tiresias_core.specs.declared.fetch.Stop.{Stop}
 use Rattle.tiresias_core.specs.declared.reply.FileFault.{FileFault}
 use Rattle.tiresias_core.proofs.Deciding.{table_stops, from_before, asks_of, audited}
@@ -28,9 +33,39 @@ returns-in-Err-NotBuilt-clause-cause g c =
         c.in-Ok.text.items,
         subst (λ (n : List ℕ). Holds (visit g.S.Shelf.held g.S.Shelf.misses g.S.Shelf.faults c.args.shelf.now c.fetch_file.new.shelf) n c.in-Ok.text.items) (sym name) c.in-Ok.ensures.found,
         c.in-Ok.ensures.small,
-        λ query is. c.in-Err-NotBuilt.ensures.not_built (cc (c.in-Err-NotBuilt.field-0-is)) query (subst (λ (l : List ℕ). IsFirstText l query) (sym c.as_slice.ensures.value) is),
+        subst (λ (l : List ℕ). IsUnbuilt l) c.as_slice.ensures.value (subst (λ (w : Unasked). WhyUnasked c.as_slice.result.now w) c.in-Err-NotBuilt.field-0-is c.in-Err-NotBuilt.ensures.why),
       ),
     )
+
+pub returns-in-Err-Syntax-clause-cause : goal.returns-in-Err-Syntax-clause-cause
+returns-in-Err-Syntax-clause-cause g c = (
+  c.in-Some.form.query.now,
+  c.in-Some.form.folder.now,
+  (command c.in-Some.form.command),
+  sym c.in-Some.ensures.form,
+  (
+    c.in-Ok.text.items,
+    c.in-Ok.ensures.found,
+    c.in-Ok.ensures.small,
+    subst (λ (p : Place). IsStop c.in-Ok.text.items p) (sym c.in-Err-Syntax.place-is)
+        (subst (λ (l : List ℕ). IsStop l c.in-Err-Syntax.place) c.as_slice.ensures.value (subst (λ (w : Unasked). WhyUnasked c.as_slice.result.now w) c.in-Err-Syntax.field-0-is c.in-Err-Syntax.ensures.why)),
+  ),
+)
+
+pub returns-in-Err-Unsound-clause-cause : goal.returns-in-Err-Unsound-clause-cause
+returns-in-Err-Unsound-clause-cause g c = (
+  c.in-Some.form.query.now,
+  c.in-Some.form.folder.now,
+  (command c.in-Some.form.command),
+  sym c.in-Some.ensures.form,
+  (
+    c.in-Ok.text.items,
+    c.in-Ok.ensures.found,
+    c.in-Ok.ensures.small,
+    subst (λ (f : SoundFault). IsUnsound c.in-Ok.text.items f) (sym c.in-Err-Unsound.fault-is)
+        (subst (λ (l : List ℕ). IsUnsound l c.in-Err-Unsound.fault) c.as_slice.ensures.value (subst (λ (w : Unasked). WhyUnasked c.as_slice.result.now w) c.in-Err-Unsound.field-0-is c.in-Err-Unsound.ensures.why)),
+  ),
+)
 
 pub returns-in-Err-Fault-fetch_file-clause-cause : goal.returns-in-Err-Fault-fetch_file-clause-cause
 returns-in-Err-Fault-fetch_file-clause-cause g c =
