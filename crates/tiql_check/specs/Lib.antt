@@ -1,0 +1,10 @@
+pub mod Turns
+pub mod Scopes
+pub mod Expressions
+pub mod Conditions
+pub mod Known
+pub mod Tables
+pub mod Hypos
+pub mod Selects
+pub mod Views
+pub mod Sound
