@@ -1,4 +1,5 @@
 pub mod Turns
+pub mod Names
 pub mod Forms
 pub mod Items
 pub mod Lists

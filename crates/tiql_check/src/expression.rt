@@ -71,11 +71,13 @@ pub fn check_expression(
             })
         }
         TreeForm::Neg(part) => {
-            let one = as_number(check_expression(alloc, scope, part.get())?, part.get().place)?;
+            let part = part.get();
+            let one = as_number(check_expression(alloc, scope, part)?, part.place)?;
             negated(alloc, one)
         }
         TreeForm::Abs(part) => {
-            let one = as_number(check_expression(alloc, scope, part.get())?, part.get().place)?;
+            let part = part.get();
+            let one = as_number(check_expression(alloc, scope, part)?, part.place)?;
             absolute(alloc, one)
         }
     }
@@ -181,6 +183,7 @@ fn absolute(alloc: Global, one: Typed) -> Result<Typed, SoundFault>
 }
 
 /// The expression over these relations, which has to be a whole number.
+#[tactic(auto, unfolding(crate::specs::Expressions::number_in))]
 pub fn check_number(
     alloc: Global,
     scope: &[InScope<'_>],

@@ -1,7 +1,7 @@
 //! Why a query is not sound.
 
 use base_kit::{Memory, Place};
-use std::alloc::AllocError;
+use std::alloc::{AllocError, AllocFailed};
 use thiserror::Error;
 
 /// The rule that a query breaks first, with the place at which it is told (docs/LANGUAGE.md, "Soundness").
@@ -60,6 +60,17 @@ impl From<AllocError> for SoundFault {
     ghost from_gives = { λ _ told. told ≡ SoundFault.Memory };
 
     fn from(_fault: AllocError) -> SoundFault {
+        SoundFault::Memory
+    }
+}
+
+impl<T: Drop> From<AllocFailed<T>> for SoundFault {
+    ghost use Rattle.std.specs.Prelude.{◌≡◌};
+    ghost use Rattle.tiql_check.specs.declared.fault.SoundFault.{SoundFault};
+
+    ghost from_gives = { λ _ told. told ≡ SoundFault.Memory };
+
+    fn from(_fault: AllocFailed<T>) -> SoundFault {
         SoundFault::Memory
     }
 }

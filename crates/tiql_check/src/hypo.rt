@@ -123,7 +123,7 @@ fn droppable(table: &QTable, dropped: Option<Place>) -> Result<bool, SoundFault>
 }
 
 // Over the table with this number.
-#[tactic(auto, unfolding(crate::specs::Hypos::over_table))]
+#[tactic(auto, unfolding(crate::specs::Hypos::over_table, crate::specs::Scopes::scope_of))]
 fn over_table(
     alloc: Global,
     number: u32,

@@ -21,6 +21,7 @@ use tiql_query::{Aim, Cond, Expr, Query, Require, Source};
 use tiql_tree::{Decl, Spot, Tree, TreeCond, TreeExpr, TreeGoal, TreeRequire};
 
 // A relation with a condition over its columns.
+#[tactic(auto, unfolding(crate::specs::Scopes::scope_of))]
 fn check_have(
     alloc: Global,
     known: &Known,
@@ -91,6 +92,7 @@ fn check_declarations(alloc: Global, decls: &[Decl]) -> Result<Known, SoundFault
 }
 
 // The relation of a goal is checked before its expression.
+#[tactic(auto, unfolding(crate::specs::Scopes::scope_of))]
 fn check_summed(
     alloc: Global,
     known: &Known,

@@ -110,19 +110,20 @@ pub fn resolve(scope: &[InScope<'_>], column: &TreeRef) -> Result<Meant, SoundFa
 {
     let mut meant = None;
     for (source, relation) in scope.iter().enumerate() {
-        if let Some(found) = find_in(relation, column)? {
-            if meant.is_some() {
-                return Err(SoundFault::SameName(column.place));
-            }
-            let at = At {
-                source: number_of(source)?,
-                column: found.number,
-            };
-            meant = Some(Meant {
-                at,
-                kind: found.kind,
-            });
+        let Some(found) = find_in(relation, column)? else {
+            continue;
+        };
+        if meant.is_some() {
+            return Err(SoundFault::SameName(column.place));
         }
+        let at = At {
+            source: number_of(source)?,
+            column: found.number,
+        };
+        meant = Some(Meant {
+            at,
+            kind: found.kind,
+        });
     }
     meant.ok_or(SoundFault::UnknownName(column.place))
 }

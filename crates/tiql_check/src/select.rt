@@ -56,15 +56,14 @@ fn add_source<'a>(
         return Err(SoundFault::SameName(tree.alias.place));
     }
     before.sources.push(source)?;
-    match before.scope.push(InScope {
+    before.scope.push(InScope {
         alias: Some(&tree.alias.name),
         columns: columns_in(known, source),
-    }) {
-        Ok(()) => Ok(()),
-        Err(_) => Err(SoundFault::Memory),
-    }
+    })?;
+    Ok(())
 }
 
+#[tactic(auto, unfolding(crate::specs::Scopes::scope_of))]
 fn check_sources<'a>(
     alloc: Global,
     known: &'a Known,

@@ -1,0 +1,7 @@
+use Rattle.std.proofs.Common.{rules}
+use Rattle.tiql_check.specs.Scopes.{scope_of}
+use Rattle.tiql_check.proofs.select.has_alias.Goals as goal
+
+pub returns : goal.returns
+unfolding scope_of
+returns c = let h = c.any.ensures in ?
