@@ -11,7 +11,12 @@ use Rattle.tiql_check.specs.declared.fault.SoundFault.TheVariants as fault
 use Rattle.tiql_check.specs.declared.scope.Found.{Found}
 use Rattle.tiql_check.specs.declared.scope.Meant.{Meant}
 use Rattle.tiql_check.specs.declared.scope.InScope.{InScope}
+use Rattle.tiql_tree.specs.declared.tree.TreeSource.{TreeSource}
+use Rattle.tiql_query.specs.declared.relation.Source.{Source}
+use Rattle.tiql_check.specs.declared.known.Known.{Known}
 use Rattle.tiql_check.specs.Turns.{Gives}
+use Rattle.tiql_check.specs.Known.{declared, columns_in}
+use Rattle.tiql_check.specs.Selects.{Taken, has_alias, with_source}
 use Rattle.tiql_check.specs.Scopes.{seen, scope_of, fitting, of_source, candidates, only_one, meant}
 
 -- what a check comes to without want of memory
@@ -30,9 +35,11 @@ module _ (ref : TreeRef) (scope : List InScope) where
   one_here : (i : ℕ) (it : InScope) (found : Found) → i < length scope → it ≡ get_or scope i it → Some found ≡ fitting ref (seen it) → candidates ref i (scope_of (drop i scope)) ≡ record { at = record { source = i; column = found.number }; kind = found.kind } ∷ candidates ref (i + 1) (scope_of (drop (i + 1) scope))
   one_here i it found lt is some = rest-is i it lt is ∙ ap (λ o. of_source i o ++ candidates ref (i + 1) (scope_of (drop (i + 1) scope))) (sym some)
 
-  pub first_here : (i : ℕ) (it : InScope) (found : Found) (before : Option Meant) (r : List Meant) → i < length scope → it ≡ get_or scope i it → Some found ≡ fitting ref (seen it) → is_some before ≡ false → option_to_list before ++ candidates ref i (scope_of (drop i scope)) ≡ r → record { at = record { source = i; column = found.number }; kind = found.kind } ∷ candidates ref (i + 1) (scope_of (drop (i + 1) scope)) ≡ r
-  first_here i it found None r lt is some none h = sym (one_here i it found lt is some) ∙ h
-  first_here i it found (Some m) r lt is some none h = absurd (false≢true (sym none))
+  pub first_here : (i n : ℕ) (it : InScope) (found : Found) (before : Option Meant) (r : List Meant) → n ≡ i → i < length scope → it ≡ get_or scope i it → Some found ≡ fitting ref (seen it) → is_some before ≡ false → option_to_list before ++ candidates ref i (scope_of (drop i scope)) ≡ r → record { at = record { source = n; column = found.number }; kind = found.kind } ∷ candidates ref (i + 1) (scope_of (drop (i + 1) scope)) ≡ r
+  first_here i n it found None r at lt is some none h =
+      ap (λ (k : ℕ). record { at = record { source = k; column = found.number }; kind = found.kind } ∷ candidates ref (i + 1) (scope_of (drop (i + 1) scope))) at
+      ∙ sym (one_here i it found lt is some) ∙ h
+  first_here i n it found (Some m) r at lt is some none h = absurd (false≢true (sym none))
 
   pub second_here : (i : ℕ) (it : InScope) (found : Found) (before : Option Meant) → i < length scope → it ≡ get_or scope i it → Some found ≡ fitting ref (seen it) → is_some before ≡ true → option_to_list before ++ candidates ref i (scope_of (drop i scope)) ≡ candidates ref 0 (scope_of scope) → meant (scope_of scope) ref ≡ Err (fault.SameName ref.place)
   unfolding meant
@@ -46,6 +53,15 @@ module _ (ref : TreeRef) (scope : List InScope) where
       by_before : (o : Option Meant) → only_one ref.place (option_to_list o) ≡ ok_or o (fault.UnknownName ref.place)
       by_before None = refl
       by_before (Some m) = refl
+
+-- one source more
+pub scope_push : (items : List InScope) (it : InScope) → scope_of (items ++ it ∷ []) ≡ scope_of items ++ seen it ∷ []
+unfolding scope_of
+scope_push [] it = refl
+scope_push (x ∷ xs) it = ap (λ l. seen x ∷ l) (scope_push xs it)
+
+pub source_added : (known : Known) (before next : Taken) (tree : TreeSource) (source : Source) → Ok source ≡ declared known tree.relation → has_alias tree.alias.name before.scope ≡ false → next.sources ≡ before.sources ++ source ∷ [] → next.scope ≡ before.scope ++ record { alias = Some tree.alias.name; columns = columns_in known source } ∷ [] → with_source known before tree ≡ Ok next
+source_added known before next tree source ok new sources scope = rw (← ok, new, ← sources, ← scope) refl
 
 -- a test of mapped items
 pub list_any-map : {A B : Type 0} (p : B → Bool) (f : A → B) (xs : List A) → list_any p (map f xs) ≡ list_any (λ x. p (f x)) xs

@@ -121,9 +121,12 @@ lone_column = fold-Expr (Option At) (Option At) lone_step (λ part. part.part)
 abbrev pub same_column : At → At → Bool
 same_column one other = one.source == other.source && one.column == other.column
 
+abbrev pub is_among : At → List At → Bool
+is_among at group = list_any (λ other. same_column other at) group
+
 abbrev pub is_in_group : List At → Option At → Bool
 is_in_group group None = false
-is_in_group group (Some at) = list_any (λ other. same_column other at) group
+is_in_group group (Some at) = is_among at group
 
 -- an item of a grouped select: an aggregate, or a column of GROUP BY
 unfoldable pub fits_group : List At → Item → Bool

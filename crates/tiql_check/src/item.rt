@@ -109,12 +109,18 @@ fn same_column(one: At, other: At) -> bool
     one.source == other.source && one.column == other.column
 }
 
+fn is_among(at: At, group: &[At]) -> bool
+    ensures { result ≡ spec.is_among at group.now }
+{
+    group.iter().any(|other| same_column(*other, at))
+}
+
 fn is_in_group(group: &[At], at: Option<At>) -> bool
     ensures { result ≡ spec.is_in_group group.now at }
 {
     match at {
         None => false,
-        Some(at) => group.iter().any(|other| same_column(*other, at)),
+        Some(at) => is_among(at, group),
     }
 }
 

@@ -1,5 +1,6 @@
 //! Selects.
 ghost use Rattle.std.specs.Prelude.{◌≡◌, [], option_map};
+ghost use Rattle.std.specs.List.{list_any};
 ghost use Rattle.tiql_check.specs.Scopes.{scope_of};
 ghost use Rattle.tiql_check.specs.Selects as spec;
 ghost use Rattle.tiql_check.specs.Turns.{Gives, GivesAs, Leaves, in_turn};
@@ -37,10 +38,16 @@ fn is_alias(name: &Name, alias: Option<&Name>) -> bool
     }
 }
 
+fn any_has_alias(name: &Name, scope: &[InScope<'_>]) -> bool
+    ensures { result ≡ list_any (λ relation. spec.is_alias name.now (option_map (λ alias. alias.now) relation.alias)) scope.now }
+{
+    scope.iter().any(|relation| is_alias(name, relation.alias))
+}
+
 fn has_alias(name: &Name, scope: &[InScope<'_>]) -> bool
     ensures { result ≡ spec.has_alias name.now (scope_of scope.now) }
 {
-    scope.iter().any(|relation| is_alias(name, relation.alias))
+    any_has_alias(name, scope)
 }
 
 // No two aliases of a select are one name.
