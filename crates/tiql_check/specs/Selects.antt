@@ -57,10 +57,10 @@ abbrev pub with_source : Known → Taken → TreeSource → Result Taken SoundFa
 with_source known before tree = do
   source ← declared known tree.relation
   if has_alias tree.alias.name before.scope then Err (fault.SameName tree.alias.place)
-    else Ok (record {
-      sources = before.sources ++ source ∷ [];
-      scope = before.scope ++ record { alias = Some tree.alias.name; columns = columns_in known source } ∷ [];
-    })
+      else Ok (record {
+        sources = before.sources ++ source ∷ [];
+        scope = before.scope ++ record { alias = Some tree.alias.name; columns = columns_in known source } ∷ [];
+      })
 
 -- columns of GROUP BY are fixed
 abbrev pub with_group : Scope → List At → TreeRef → Result (List At) SoundFault
@@ -170,10 +170,10 @@ items_in first taken select filter = do
   group ← in_turn (with_group taken.scope) [] select.group
   all ← in_turn (with_item (record { named = first; distinct = select.distinct; grouped = is_grouped select }) taken.scope group) no_items select.items
   if is_grouped select && select.distinct then Err (fault.NotGrouped select.place)
-    else Ok (record {
-      select = record { distinct = select.distinct; sources = taken.sources; filter = filter; group = group_if (is_grouped select) group; items = all.items };
-      columns = all.columns;
-    })
+      else Ok (record {
+        select = record { distinct = select.distinct; sources = taken.sources; filter = filter; group = group_if (is_grouped select) group; items = all.items };
+        columns = all.columns;
+      })
 
 -- a select; the first one of a view names its columns
 unfoldable pub checked_select : Known → Bool → TreeSelect → Result Arm SoundFault

@@ -4,7 +4,6 @@ use Rattle.tiql_check.specs.declared.fault.SoundFault.{SoundFault}
 use Rattle.tiql_check.specs.declared.fault.SoundFault.TheVariants as fault
 
 infixl 10 ◌>>=◌
-
 -- the next check, where this one found no broken rule
 abbrev pub ◌>>=◌ : {A B : Type 0} → Result A SoundFault → (A → Result B SoundFault) → Result B SoundFault
 Ok a >>= f = f a

@@ -97,12 +97,7 @@ pub fn columns_in(known: &Known, source: Source) -> &[Column]
 }
 
 // Names a relation.
-fn add_relation(
-    alloc: Global,
-    known: &mut Known,
-    name: &Name,
-    source: Source,
-) -> Result<(), Memory>
+fn add_relation(alloc: Global, known: &mut Known, name: &Name, source: Source) -> Result<(), Memory>
     ensures relation { OnOk result (known.new ≡ record known.old { relations = spec.with_relation known.old name.now source }) }
 {
     known.relations.push(Relation {

@@ -54,11 +54,7 @@ fn check_columns(alloc: Global, trees: &[TreeColumn]) -> Result<List<Column>, So
 }
 
 // A KEY names columns of its table, each once.
-fn add_key_column(
-    columns: &[Column],
-    before: &mut List<u32>,
-    name: &Spot,
-) -> Result<(), SoundFault>
+fn add_key_column(columns: &[Column], before: &mut List<u32>, name: &Spot) -> Result<(), SoundFault>
     ensures { Leaves (spec.with_key_column columns.now before.old name.now) before.new result }
 {
     match find_column(columns, &name.name)? {

@@ -117,12 +117,7 @@ fn hypo(
     }))
 }
 
-fn item(
-    alloc: Global,
-    value: TreeValue,
-    name: &str,
-    column: u32,
-) -> Result<TreeItem, Fail> {
+fn item(alloc: Global, value: TreeValue, name: &str, column: u32) -> Result<TreeItem, Fail> {
     Ok(TreeItem {
         place: at(column),
         value,
@@ -181,14 +176,23 @@ fn names_are_refused(rt: HostRuntime) -> Result<(), Fail> {
     let alloc = rt.alloc();
     // HYPO h FROM t; FIND;
     let over_none = hypo(alloc, spot(alloc, "t", 13)?, List::new(alloc), None)?;
-    assert_eq!(rt; fault(alloc, list(alloc, [over_none])?)?, Some(SoundFault::UnknownName(at(13))));
+    assert_eq!(rt;
+        fault(alloc, list(alloc, [over_none])?)?,
+        Some(SoundFault::UnknownName(at(13)))
+    );
     // TABLE t (a INT, a INT); FIND;
     let columns = list(alloc, [int(alloc, "a", 10)?, int(alloc, "a", 17)?])?;
     let doubled = table(alloc, "t", columns, List::new(alloc))?;
-    assert_eq!(rt; fault(alloc, list(alloc, [doubled])?)?, Some(SoundFault::SameName(at(17))));
+    assert_eq!(rt;
+        fault(alloc, list(alloc, [doubled])?)?,
+        Some(SoundFault::SameName(at(17)))
+    );
     // TABLE t (a INT) KEY (b); FIND;
     let keyed = lone_table(alloc, list(alloc, [spot(alloc, "b", 22)?])?)?;
-    assert_eq!(rt; fault(alloc, list(alloc, [keyed])?)?, Some(SoundFault::NoSuchKeyColumn(at(22))));
+    assert_eq!(rt;
+        fault(alloc, list(alloc, [keyed])?)?,
+        Some(SoundFault::NoSuchKeyColumn(at(22)))
+    );
     Ok(())
 }
 
@@ -196,19 +200,33 @@ fn names_are_refused(rt: HostRuntime) -> Result<(), Fail> {
 fn hypothetical_tables_are_refused(rt: HostRuntime) -> Result<(), Fail> {
     let alloc = rt.alloc();
     // TABLE t (a TEXT); HYPO h FROM t SET a IN 0 .. 1; FIND;
-    let texts = table(alloc, "t", list(alloc, [text(alloc, "a")?])?, List::new(alloc))?;
+    let texts = table(
+        alloc,
+        "t",
+        list(alloc, [text(alloc, "a")?])?,
+        List::new(alloc),
+    )?;
     let set = list(alloc, [bound(alloc, "a", 37, number(1))?])?;
     let over_texts = hypo(alloc, spot(alloc, "t", 0)?, set, None)?;
-    assert_eq!(rt; fault(alloc, list(alloc, [texts, over_texts])?)?, Some(SoundFault::WrongType(at(37))));
+    assert_eq!(rt;
+        fault(alloc, list(alloc, [texts, over_texts])?)?,
+        Some(SoundFault::WrongType(at(37)))
+    );
     // TABLE t (a INT) KEY (a); HYPO h FROM t SET a IN 0 .. 1; FIND;
     let keyed = lone_table(alloc, list(alloc, [spot(alloc, "a", 0)?])?)?;
     let set = list(alloc, [bound(alloc, "a", 44, number(1))?])?;
     let over_key = hypo(alloc, spot(alloc, "t", 0)?, set, None)?;
-    assert_eq!(rt; fault(alloc, list(alloc, [keyed, over_key])?)?, Some(SoundFault::KeyUnknown(at(44))));
+    assert_eq!(rt;
+        fault(alloc, list(alloc, [keyed, over_key])?)?,
+        Some(SoundFault::KeyUnknown(at(44)))
+    );
     // TABLE t (a INT); HYPO h FROM t DROP; FIND;
     let plain = lone_table(alloc, List::new(alloc))?;
     let dropped = hypo(alloc, spot(alloc, "t", 0)?, List::new(alloc), Some(at(32)))?;
-    assert_eq!(rt; fault(alloc, list(alloc, [plain, dropped])?)?, Some(SoundFault::KeyMissing(at(32))));
+    assert_eq!(rt;
+        fault(alloc, list(alloc, [plain, dropped])?)?,
+        Some(SoundFault::KeyMissing(at(32)))
+    );
     Ok(())
 }
 
@@ -218,16 +236,34 @@ fn selects_are_refused(rt: HostRuntime) -> Result<(), Fail> {
     // TABLE t (a INT); HYPO h FROM t SET a IN 0 .. 1; VIEW v AS SELECT DISTINCT a FROM h; FIND;
     let set = list(alloc, [bound(alloc, "a", 0, number(1))?])?;
     let chosen = hypo(alloc, spot(alloc, "t", 0)?, set, None)?;
-    let unknown = item(alloc, TreeValue::Plain(bare_column(alloc, "a", 75)?), "a", 75)?;
+    let unknown = item(
+        alloc,
+        TreeValue::Plain(bare_column(alloc, "a", 75)?),
+        "a",
+        75,
+    )?;
     let sources = list(alloc, [source(alloc, "h")?])?;
-    let once = view(alloc, "v", select(alloc, true, list(alloc, [unknown])?, sources))?;
+    let once = view(
+        alloc,
+        "v",
+        select(alloc, true, list(alloc, [unknown])?, sources),
+    )?;
     let decls = list(alloc, [lone_table(alloc, List::new(alloc))?, chosen, once])?;
     assert_eq!(rt; fault(alloc, decls)?, Some(SoundFault::NotFixed(at(75))));
     // TABLE t (a INT, b INT); VIEW v AS SELECT a, COUNT(*) AS n FROM t; FIND;
-    let plain = item(alloc, TreeValue::Plain(bare_column(alloc, "a", 42)?), "a", 42)?;
+    let plain = item(
+        alloc,
+        TreeValue::Plain(bare_column(alloc, "a", 42)?),
+        "a",
+        42,
+    )?;
     let count = item(alloc, TreeValue::Count, "n", 45)?;
     let sources = list(alloc, [source(alloc, "t")?])?;
-    let counted = view(alloc, "v", select(alloc, false, list(alloc, [plain, count])?, sources))?;
+    let counted = view(
+        alloc,
+        "v",
+        select(alloc, false, list(alloc, [plain, count])?, sources),
+    )?;
     let decls = list(alloc, [lone_table(alloc, List::new(alloc))?, counted])?;
     assert_eq!(rt; fault(alloc, decls)?, Some(SoundFault::NotGrouped(at(42))));
     Ok(())
@@ -244,8 +280,16 @@ fn stock(alloc: Global) -> Result<List<Decl>, Fail> {
             int(alloc, "qty", 0)?,
         ],
     )?;
-    let items = table(alloc, "item", columns, list(alloc, [spot(alloc, "id", 0)?])?)?;
-    let set = list(alloc, [bound(alloc, "qty", 0, bare_column(alloc, "qty", 0)?)?])?;
+    let items = table(
+        alloc,
+        "item",
+        columns,
+        list(alloc, [spot(alloc, "id", 0)?])?,
+    )?;
+    let set = list(
+        alloc,
+        [bound(alloc, "qty", 0, bare_column(alloc, "qty", 0)?)?],
+    )?;
     let chosen = hypo(alloc, spot(alloc, "item", 0)?, set, None)?;
     list(alloc, [items, chosen])
 }
@@ -254,7 +298,11 @@ fn stock(alloc: Global) -> Result<List<Decl>, Fail> {
 fn maximize(alloc: Global, one: &str) -> Result<TreeGoal, Fail> {
     Ok(TreeGoal::Sum {
         maximize: true,
-        part: product(alloc, bare_column(alloc, one, 14)?, bare_column(alloc, "qty", 20)?)?,
+        part: product(
+            alloc,
+            bare_column(alloc, one, 14)?,
+            bare_column(alloc, "qty", 20)?,
+        )?,
         relation: spot(alloc, "h", 0)?,
     })
 }
@@ -277,7 +325,11 @@ fn a_product_of_two_unknown_factors_is_refused(rt: HostRuntime) -> Result<(), Fa
 fn total(alloc: Global) -> Result<Decl, Fail> {
     let sum = item(alloc, TreeValue::Sum(column_of(alloc, "h", "qty")?), "n", 0)?;
     let sources = list(alloc, [source(alloc, "h")?])?;
-    view(alloc, "tot", select(alloc, false, list(alloc, [sum])?, sources))
+    view(
+        alloc,
+        "tot",
+        select(alloc, false, list(alloc, [sum])?, sources),
+    )
 }
 
 // VIEW ch AS SELECT h.id FROM h, item WHERE h.id = item.id AND NOT h.qty <> item.qty;
@@ -293,7 +345,12 @@ fn kept(alloc: Global) -> Result<Decl, Fail> {
         column_of(alloc, "item", "qty")?,
     );
     let not = TreeCond::Not(Boxed::new(alloc, quantities)?);
-    let id = item(alloc, TreeValue::Plain(column_of(alloc, "h", "id")?), "id", 0)?;
+    let id = item(
+        alloc,
+        TreeValue::Plain(column_of(alloc, "h", "id")?),
+        "id",
+        0,
+    )?;
     let sources = list(alloc, [source(alloc, "h")?, source(alloc, "item")?])?;
     view(
         alloc,
@@ -333,7 +390,16 @@ fn a_sound_query_is_checked(rt: HostRuntime) -> Result<(), Fail> {
     let kept = query.views.get(1).ok_or("no view")?;
     assert!(rt; !kept.columns.get(0).ok_or("no column")?.unknown);
     assert_eq!(rt; query.requires_.len(), 2);
-    assert!(rt; matches!(&query.aim, Aim::Sum { maximize: true, source: Source::Hypo(0), .. }));
+    assert!(rt;
+        matches!(
+            &query.aim,
+            Aim::Sum {
+                maximize: true,
+                source: Source::Hypo(0),
+                ..
+            }
+        )
+    );
     Ok(())
 }
 
@@ -349,10 +415,30 @@ fn teams(alloc: Global) -> Result<List<Decl>, Fail> {
             int(alloc, "level", 0)?,
         ],
     )?;
-    let slots = table(alloc, "slot", columns, list(alloc, [spot(alloc, "id", 0)?])?)?;
-    let dropped = hypo(alloc, spot(alloc, "slot", 0)?, List::new(alloc), Some(at(0)))?;
-    let team = item(alloc, TreeValue::Plain(bare_column(alloc, "team", 0)?), "team", 0)?;
-    let least = item(alloc, TreeValue::Min(bare_column(alloc, "level", 0)?), "m", 0)?;
+    let slots = table(
+        alloc,
+        "slot",
+        columns,
+        list(alloc, [spot(alloc, "id", 0)?])?,
+    )?;
+    let dropped = hypo(
+        alloc,
+        spot(alloc, "slot", 0)?,
+        List::new(alloc),
+        Some(at(0)),
+    )?;
+    let team = item(
+        alloc,
+        TreeValue::Plain(bare_column(alloc, "team", 0)?),
+        "team",
+        0,
+    )?;
+    let least = item(
+        alloc,
+        TreeValue::Min(bare_column(alloc, "level", 0)?),
+        "m",
+        0,
+    )?;
     let other = TreeExpr {
         place: at(0),
         form: TreeForm::Text(Txt::new(alloc, "b")?),

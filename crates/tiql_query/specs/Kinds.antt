@@ -1,5 +1,5 @@
 -- what stands in columns, expressions and conditions: texts or whole numbers, and whether they differ from world to world
-use Rattle.std.specs.Prelude.{◌^◌, unsigned_abs, nat_le, Bool, true, false, not, ◌||◌, if◌then◌else◌, List, [], ◌∷◌, Option, Some, None, option_map, unwrap_or, slice_get}
+use Rattle.std.specs.Prelude.{◌^◌, unsigned_abs, nat_le, Bool, true, false, not, ◌||◌, ◌&&◌, if◌then◌else◌, List, [], ◌∷◌, Option, Some, None, option_map, unwrap_or, slice_get}
 use Rattle.std.specs.List.{list_all}
 use Rattle.tiql_query.specs.declared.relation.Column.{Column}
 use Rattle.tiql_query.specs.declared.expression.At.{At}
@@ -37,21 +37,33 @@ arithmetic [] = Some (number false)
 arithmetic (None ∷ parts) = None
 arithmetic (Some part ∷ parts) = with_part part (arithmetic parts)
 
+-- a factor before others of one product
+abbrev pub with_factor : Kind → Option Kind → Option Kind
+with_factor factor None = None
+with_factor factor (Some others) = if factor.text || (factor.unknown && others.unknown) then None else Some (number (factor.unknown || others.unknown))
+
+-- the product of these factors: a number, unknown where one of them is. There is none where a factor has no kind or is a text,
+-- or where two are unknown
+unfoldable pub multiplied : List (Option Kind) → Option Kind
+multiplied [] = Some (number false)
+multiplied (None ∷ factors) = None
+multiplied (Some factor ∷ factors) = with_factor factor (multiplied factors)
+
 -- a number of a query is at most 10^15 in size
 abbrev pub kind_step : Scope → Expr-F (Option Kind) (Option Kind) → Option Kind
 kind_step scope (Expr-F.Int n) = if nat_le (unsigned_abs n) (10 ^ 15) then Some (number false) else None
 kind_step scope (Expr-F.Text t) = Some (record { text = true; unknown = false })
 kind_step scope (Expr-F.Column at) = kind_at scope at
 kind_step scope (Expr-F.Sum parts) = arithmetic parts
-kind_step scope (Expr-F.Product factors) = arithmetic factors
+kind_step scope (Expr-F.Product factors) = multiplied factors
 kind_step scope (Expr-F.Neg part) = arithmetic (part ∷ [])
 kind_step scope (Expr-F.Abs part) = arithmetic (part ∷ [])
 
 abbrev pub part_step : Signed-F (Option Kind) (Option Kind) → Option Kind
 part_step signed = signed.part
 
--- the kind of an expression, and none where a number in it is too large, a column of it is not there, or it reckons with a
--- text
+-- the kind of an expression, and none where a number in it is too large, a column of it is not there, it reckons with a text, or
+-- two factors of a product in it are unknown
 unfoldable pub kind : Scope → Expr → Option Kind
 kind scope = fold-Expr (Option Kind) (Option Kind) (kind_step scope) part_step
 

@@ -4,6 +4,7 @@ use Rattle.std.specs.List.{list_any}
 use Rattle.tiql_query.specs.declared.relation.Source.{Source}
 use Rattle.tiql_query.specs.declared.relation.Source.TheVariants as sources
 use Rattle.tiql_query.specs.declared.relation.Column.{Column}
+use Rattle.tiql_query.specs.declared.expression.At.{At}
 use Rattle.tiql_query.specs.declared.relation.QTable.{QTable}
 use Rattle.tiql_query.specs.declared.relation.QBound.{QBound}
 use Rattle.tiql_query.specs.declared.relation.QHypo.{QHypo}
@@ -73,11 +74,16 @@ item_kind scope (items.Max part) = aggregate (kind scope part)
 abbrev pub item_kinds : Query → Select → List (Option Kind)
 item_kinds query select = map (item_kind (scope_of query select)) select.items
 
--- a select of the view with this number
+-- a column that is there and is fixed
+abbrev pub IsFixedColumn : Scope → At → Type 0
+IsFixedColumn scope at = (it : Kind) × (kind_at scope at ≡ Some it) × (it.unknown ≡ false)
+
+-- a select of the view with this number. Columns of GROUP BY, and the items of a DISTINCT select, are fixed
 pub record IsSelectFit (query : Query) (before : ℕ) (columns : List Column) (select : Select) : Type 0 where
   pub sources : All (IsEarlier query before) select.sources
   pub filter : IsTrue (is_fit_filter (scope_of query select) select.filter)
-  pub group : All (λ at. (it : Kind) × (kind_at (scope_of query select) at ≡ Some it)) (unwrap_or select.group [])
+  pub group : All (IsFixedColumn (scope_of query select)) (unwrap_or select.group [])
+  pub distinct : select.distinct ≡ true → All (λ it. is_unknown it ≡ false) (item_kinds query select)
   pub texts : map (option_map (λ it. it.text)) (item_kinds query select) ≡ map (λ column. Some column.text) columns
 
 -- a column of a view is unknown where it is so in one of its selects
@@ -96,7 +102,7 @@ IsAimFit query aims.Find = Unit
 IsAimFit query (aims.Sum maximize source part) = IsOver query source (λ scope. is_number (kind scope part))
 
 -- the query's numbers name what is there, the sources of a view stand before it, numbers are at most 10^15 in size, types fit,
--- and what is marked unknown is so
+-- products have one unknown factor at most, columns of GROUP BY and of DISTINCT selects are fixed, and what is marked unknown is so
 pub record IsWellFormed (query : Query) : Type 0 where
   pub tables : All IsTableFit query.tables
   pub hypos : All (IsHypoFit query) query.hypos

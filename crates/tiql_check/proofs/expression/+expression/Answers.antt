@@ -71,4 +71,3 @@ check_factors-returns-in_err-add_factor t c = search (rules, turn_map-err with_f
 
 pub check_factors-returns : goal.check_factors-returns
 check_factors-returns t c = turn_map-end with_factor (part_in (scope_of c.args.scope.now)) c.args.parts.now _ _ _ (omega arith) c.loop-part.invariant
-
