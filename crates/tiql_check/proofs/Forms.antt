@@ -41,37 +41,58 @@ module _ (scope : Scope) where
   unfolding signed_in part_in
   signed_in-is s = fold_out-TreeSigned (Result Typed SoundFault) Part SignedPart (form_typed scope) expr_part signed_part s
 
+  pub formed-Number : (n : ℤ) → form_in scope (Number n) ≡ Ok (record { expr = exprs.Int n; kind = number false })
+  unfolding form_in roll-TreeForm roll
+  formed-Number n = fold-roll-TreeForm (Result Typed SoundFault) Part SignedPart (form_typed scope) expr_part signed_part (TreeForm-F.Number n)
+
+  pub formed-Text : (t : List ℕ) → form_in scope (Text t) ≡ Ok (record { expr = exprs.Text t; kind = record { text = true; unknown = false } })
+  unfolding form_in roll-TreeForm roll
+  formed-Text t = fold-roll-TreeForm (Result Typed SoundFault) Part SignedPart (form_typed scope) expr_part signed_part (TreeForm-F.Text t)
+
+  pub formed-Ref : (ref : TreeRef) → form_in scope (Ref ref) ≡ named_in scope ref
+  unfolding form_in roll-TreeForm roll
+  formed-Ref ref = fold-roll-TreeForm (Result Typed SoundFault) Part SignedPart (form_typed scope) expr_part signed_part (TreeForm-F.Ref ref)
+
+  pub formed-Sum : (parts : List TreeSigned) → form_in scope (Sum parts) ≡ sum_of (map (signed_in scope) parts)
+  unfolding form_in signed_in roll-TreeForm roll
+  formed-Sum parts = fold-roll-TreeForm (Result Typed SoundFault) Part SignedPart (form_typed scope) expr_part signed_part (TreeForm-F.Sum parts)
+
+  pub formed-Product : (parts : List TreeExpr) → form_in scope (Product parts) ≡ product_of (map (part_in scope) parts)
+  unfolding form_in part_in roll-TreeForm roll
+  formed-Product parts = fold-roll-TreeForm (Result Typed SoundFault) Part SignedPart (form_typed scope) expr_part signed_part (TreeForm-F.Product parts)
+
+  pub formed-Neg : (part : TreeExpr) → form_in scope (Neg part) ≡ whole_number (part_in scope part) >>= (λ one. Ok (negated one))
+  unfolding form_in part_in roll-TreeForm roll
+  formed-Neg part = fold-roll-TreeForm (Result Typed SoundFault) Part SignedPart (form_typed scope) expr_part signed_part (TreeForm-F.Neg part)
+
+  pub formed-Abs : (part : TreeExpr) → form_in scope (Abs part) ≡ whole_number (part_in scope part) >>= (λ one. Ok (absolute one))
+  unfolding form_in part_in roll-TreeForm roll
+  formed-Abs part = fold-roll-TreeForm (Result Typed SoundFault) Part SignedPart (form_typed scope) expr_part signed_part (TreeForm-F.Abs part)
+
   form-is : (e : TreeExpr) (f : TreeForm) → e.form ≡ f → typed_in scope e ≡ form_in scope f
   unfolding typed_in
   form-is e f is = ap (form_in scope) is
 
   pub typed-Number : (e : TreeExpr) (n : ℤ) → e.form ≡ Number n → typed_in scope e ≡ Ok (record { expr = exprs.Int n; kind = number false })
-  unfolding form_in roll-TreeForm roll
-  typed-Number e n is = form-is e (Number n) is ∙ fold-roll-TreeForm (Result Typed SoundFault) Part SignedPart (form_typed scope) expr_part signed_part (TreeForm-F.Number n)
+  typed-Number e n is = form-is e (Number n) is ∙ formed-Number n
 
   pub typed-Text : (e : TreeExpr) (t : List ℕ) → e.form ≡ Text t → typed_in scope e ≡ Ok (record { expr = exprs.Text t; kind = record { text = true; unknown = false } })
-  unfolding form_in roll-TreeForm roll
-  typed-Text e t is = form-is e (Text t) is ∙ fold-roll-TreeForm (Result Typed SoundFault) Part SignedPart (form_typed scope) expr_part signed_part (TreeForm-F.Text t)
+  typed-Text e t is = form-is e (Text t) is ∙ formed-Text t
 
   pub typed-Ref : (e : TreeExpr) (ref : TreeRef) → e.form ≡ Ref ref → typed_in scope e ≡ named_in scope ref
-  unfolding form_in roll-TreeForm roll
-  typed-Ref e ref is = form-is e (Ref ref) is ∙ fold-roll-TreeForm (Result Typed SoundFault) Part SignedPart (form_typed scope) expr_part signed_part (TreeForm-F.Ref ref)
+  typed-Ref e ref is = form-is e (Ref ref) is ∙ formed-Ref ref
 
   pub typed-Sum : (e : TreeExpr) (parts : List TreeSigned) → e.form ≡ Sum parts → typed_in scope e ≡ sum_of (map (signed_in scope) parts)
-  unfolding form_in signed_in roll-TreeForm roll
-  typed-Sum e parts is = form-is e (Sum parts) is ∙ fold-roll-TreeForm (Result Typed SoundFault) Part SignedPart (form_typed scope) expr_part signed_part (TreeForm-F.Sum parts)
+  typed-Sum e parts is = form-is e (Sum parts) is ∙ formed-Sum parts
 
   pub typed-Product : (e : TreeExpr) (parts : List TreeExpr) → e.form ≡ Product parts → typed_in scope e ≡ product_of (map (part_in scope) parts)
-  unfolding form_in part_in roll-TreeForm roll
-  typed-Product e parts is = form-is e (Product parts) is ∙ fold-roll-TreeForm (Result Typed SoundFault) Part SignedPart (form_typed scope) expr_part signed_part (TreeForm-F.Product parts)
+  typed-Product e parts is = form-is e (Product parts) is ∙ formed-Product parts
 
   typed-Neg : (e part : TreeExpr) → e.form ≡ Neg part → typed_in scope e ≡ whole_number (part_in scope part) >>= (λ one. Ok (negated one))
-  unfolding form_in part_in roll-TreeForm roll
-  typed-Neg e part is = form-is e (Neg part) is ∙ fold-roll-TreeForm (Result Typed SoundFault) Part SignedPart (form_typed scope) expr_part signed_part (TreeForm-F.Neg part)
+  typed-Neg e part is = form-is e (Neg part) is ∙ formed-Neg part
 
   typed-Abs : (e part : TreeExpr) → e.form ≡ Abs part → typed_in scope e ≡ whole_number (part_in scope part) >>= (λ one. Ok (absolute one))
-  unfolding form_in part_in roll-TreeForm roll
-  typed-Abs e part is = form-is e (Abs part) is ∙ fold-roll-TreeForm (Result Typed SoundFault) Part SignedPart (form_typed scope) expr_part signed_part (TreeForm-F.Abs part)
+  typed-Abs e part is = form-is e (Abs part) is ∙ formed-Abs part
 
   pub sum-Ok : (e : TreeExpr) (parts shown : List TreeSigned) (all : Terms) → e.form ≡ Sum parts → shown ≡ parts → in_turn with_term no_terms (map (signed_in scope) shown) ≡ Ok all → typed_in scope e ≡ Ok (record { expr = exprs_of.Sum all.parts; kind = number all.unknown })
   sum-Ok e parts shown all is same gives = typed-Sum e parts is ∙ rw (← same, gives) refl
@@ -111,7 +132,7 @@ module _ (scope : Scope) where
   abs-Text e part shown typed w is same gives whole = typed-Abs e part is ∙ ap (λ p. whole_number (part_in scope p) >>= (λ one. Ok (absolute one))) (sym same) ∙ ap (λ r. r >>= (λ one. Ok (absolute one))) (operand-Ok shown typed (Err w) gives whole)
 
   -- a part of a sum
-  term-by : (before : Terms) (s : TreeSigned) (r : Result Typed SoundFault) → whole_number (part_in scope s.part) ≡ r → with_term before (signed_in scope s) ≡ r >>= (λ term. Ok (add_term before s.minus term))
+  pub term-by : (before : Terms) (s : TreeSigned) (r : Result Typed SoundFault) → whole_number (part_in scope s.part) ≡ r → with_term before (signed_in scope s) ≡ r >>= (λ term. Ok (add_term before s.minus term))
   term-by before s r whole = ap (with_term before) (signed_in-is s) ∙ ap (λ r. r >>= (λ term. Ok (add_term before s.minus term))) whole
 
   pub term-Ok : (before next : Terms) (s : TreeSigned) (typed one : Typed) → typed_in scope s.part ≡ Ok typed → Ok one ≡ as_number s.part.place typed → ◌≡◌ {A = Result Terms SoundFault} (Ok (add_term before s.minus one)) (Ok next) → with_term before (signed_in scope s) ≡ Ok next
@@ -124,7 +145,7 @@ module _ (scope : Scope) where
   term-Text before s typed w gives whole ne = term-by before s (Err w) (operand-Ok s.part typed (Err w) gives whole)
 
   -- a factor of a product
-  factor-by : (before : Factors) (e : TreeExpr) (r : Result Typed SoundFault) → whole_number (part_in scope e) ≡ r → with_factor before (part_in scope e) ≡ r >>= add_factor before e.place
+  pub factor-by : (before : Factors) (e : TreeExpr) (r : Result Typed SoundFault) → whole_number (part_in scope e) ≡ r → with_factor before (part_in scope e) ≡ r >>= add_factor before e.place
   factor-by before e r whole = ap (λ w. w >>= add_factor before (part_in scope e).place) whole ∙ ap (λ p. r >>= add_factor before p) (ap (λ (part : Part). part.place) (part_in-is e))
 
   pub factor-Ok : (before next : Factors) (e : TreeExpr) (typed one : Typed) → typed_in scope e ≡ Ok typed → Ok one ≡ as_number e.place typed → add_factor before e.place one ≡ Ok next → with_factor before (part_in scope e) ≡ Ok next
@@ -144,15 +165,15 @@ module _ (scope : Scope) where
   unfolding cond_in roll-TreeCond roll
   cond-Compare c cmp one other is = ap (cond_in scope) is ∙ fold-roll-TreeCond (Result Cond SoundFault) (cond_checked scope) (TreeCond-F.Compare cmp one other)
 
-  cond-Not : (c part : TreeCond) → c ≡ Not part → cond_in scope c ≡ cond_in scope part >>= (λ cond. Ok (conds.Not cond))
+  pub cond-Not : (c part : TreeCond) → c ≡ Not part → cond_in scope c ≡ cond_in scope part >>= (λ cond. Ok (conds.Not cond))
   unfolding cond_in roll-TreeCond roll
   cond-Not c part is = ap (cond_in scope) is ∙ fold-roll-TreeCond (Result Cond SoundFault) (cond_checked scope) (TreeCond-F.Not part)
 
-  cond-And : (c : TreeCond) (parts : List TreeCond) → c ≡ And parts → cond_in scope c ≡ in_turn with_part [] (map (cond_in scope) parts) >>= (λ all. Ok (conds.And all))
+  pub cond-And : (c : TreeCond) (parts : List TreeCond) → c ≡ And parts → cond_in scope c ≡ in_turn with_part [] (map (cond_in scope) parts) >>= (λ all. Ok (conds.And all))
   unfolding cond_in roll-TreeCond roll
   cond-And c parts is = ap (cond_in scope) is ∙ fold-roll-TreeCond (Result Cond SoundFault) (cond_checked scope) (TreeCond-F.And parts)
 
-  cond-Or : (c : TreeCond) (parts : List TreeCond) → c ≡ Or parts → cond_in scope c ≡ in_turn with_part [] (map (cond_in scope) parts) >>= (λ all. Ok (conds.Or all))
+  pub cond-Or : (c : TreeCond) (parts : List TreeCond) → c ≡ Or parts → cond_in scope c ≡ in_turn with_part [] (map (cond_in scope) parts) >>= (λ all. Ok (conds.Or all))
   unfolding cond_in roll-TreeCond roll
   cond-Or c parts is = ap (cond_in scope) is ∙ fold-roll-TreeCond (Result Cond SoundFault) (cond_checked scope) (TreeCond-F.Or parts)
 

@@ -3,3 +3,7 @@ pub mod Names
 pub mod Forms
 pub mod Items
 pub mod Lists
+pub mod Inverse
+pub mod Fit
+pub mod FitExprs
+pub mod FitConds

@@ -8,3 +8,4 @@ pub mod Hypos
 pub mod Selects
 pub mod Views
 pub mod Sound
+pub mod Small
