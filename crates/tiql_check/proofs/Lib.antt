@@ -7,3 +7,4 @@ pub mod Inverse
 pub mod Fit
 pub mod FitExprs
 pub mod FitConds
+pub mod FitTables
