@@ -8,3 +8,4 @@ pub mod Fit
 pub mod FitExprs
 pub mod FitConds
 pub mod FitTables
+pub mod FitSelects
