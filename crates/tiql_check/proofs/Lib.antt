@@ -9,3 +9,5 @@ pub mod FitExprs
 pub mod FitConds
 pub mod FitTables
 pub mod FitSelects
+pub mod FitViews
+pub mod FitQuery
