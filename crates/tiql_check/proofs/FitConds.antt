@@ -39,19 +39,19 @@ use Rattle.tiql_check.proofs.Forms.{cond-Compare, cond-Not, cond-And, cond-Or}
 use Rattle.tiql_check.proofs.Fit.{cols, as_kind}
 use Rattle.tiql_check.proofs.FitExprs.{typed_fit, number_fit}
 
-small-Compare : (cmp : TreeCmp) (one other : TreeExpr) → small_cond (trees.Compare cmp one other) ≡ (small_expr one && small_expr other)
+pub small-Compare : (cmp : TreeCmp) (one other : TreeExpr) → small_cond (trees.Compare cmp one other) ≡ (small_expr one && small_expr other)
 unfolding small_cond roll-TreeCond roll
 small-Compare cmp one other = fold-roll-TreeCond Bool small_cond_step (TreeCond-F.Compare cmp one other)
 
-small-Not : (part : TreeCond) → small_cond (Not part) ≡ small_cond part
+pub small-Not : (part : TreeCond) → small_cond (Not part) ≡ small_cond part
 unfolding small_cond roll-TreeCond roll
 small-Not part = fold-roll-TreeCond Bool small_cond_step (TreeCond-F.Not part)
 
-small-And : (parts : List TreeCond) → small_cond (And parts) ≡ all_true (map small_cond parts)
+pub small-And : (parts : List TreeCond) → small_cond (And parts) ≡ all_true (map small_cond parts)
 unfolding small_cond roll-TreeCond roll
 small-And parts = fold-roll-TreeCond Bool small_cond_step (TreeCond-F.And parts)
 
-small-Or : (parts : List TreeCond) → small_cond (Or parts) ≡ all_true (map small_cond parts)
+pub small-Or : (parts : List TreeCond) → small_cond (Or parts) ≡ all_true (map small_cond parts)
 unfolding small_cond roll-TreeCond roll
 small-Or parts = fold-roll-TreeCond Bool small_cond_step (TreeCond-F.Or parts)
 

@@ -1,6 +1,6 @@
 -- a checked query is well formed
 use Rattle.std.proofs.Common.{◌≡◌, ℕ, zero, suc, ◌+◌, ◌<◌, ◌≤◌, Bool, true, false, ◌&&◌, ◌||◌, List, [], ◌∷◌, ◌++◌, length, map, refl, sym, ◌∙◌, ap, subst, arith, ◌⊎◌, inl, inr}
-use Rattle.std.specs.Prelude.{Option, Some, None, unwrap_or, slice_get, option_map, Result, Ok, Err, All}
+use Rattle.std.specs.Prelude.{Option, Some, None, unwrap_or, slice_get, option_map, Result, Ok, Err, All, IfOk}
 use Rattle.std.specs.List.{list_all, list_any}
 use Rattle.std.proofs.lemmas.List.{length-append}
 use Rattle.std.proofs.lemmas.List.Elements.{All-nil, All-push, All-weaker, All-head, All-tail}
@@ -35,7 +35,7 @@ use Rattle.tiql_tree.specs.declared.tree.TreeGoal.TheVariants as goals
 use Rattle.tiql_check.specs.declared.fault.SoundFault.{SoundFault}
 use Rattle.tiql_check.specs.declared.known.Relation.{Relation}
 use Rattle.tiql_check.specs.declared.known.Known.{Known}
-use Rattle.tiql_check.specs.Turns.{◌>>=◌, in_turn}
+use Rattle.tiql_check.specs.Turns.{◌>>=◌, in_turn, Gives}
 use Rattle.tiql_check.specs.Expressions.{number_in}
 use Rattle.tiql_check.specs.Conditions.{cond_in}
 use Rattle.tiql_check.specs.Known.{nothing, declared, columns_in, with_table, with_hypo, with_view, with_require}
@@ -51,6 +51,8 @@ use Rattle.tiql_check.proofs.FitConds.{cond_fit}
 use Rattle.tiql_check.proofs.FitTables.{table_fit, hypo_fit}
 use Rattle.tiql_check.proofs.FitSelects.{AreThere, declared_there}
 use Rattle.tiql_check.proofs.FitViews.{view_fit}
+use Rattle.tiql_check.proofs.SmallText.{text_small}
+use Rattle.tiql_tree.specs.Unplaced.{HasText}
 
 get_left : {A : Type 0} (xs ys : List A) (n : ℕ) (x : A) → slice_get xs n ≡ Some x → slice_get (xs ++ ys) n ≡ Some x
 get_left [] ys n x e = absurd (let h : None ≡ Some x = e in cc)
@@ -371,3 +373,8 @@ well_formed tree q small e =
       requires_ = requires_kept known.0 r ext fit.requires_;
       aim = aim_kept (known.0).query r ext aim.0 (goal_fit known.0 fit.relations tree.goal aim.0 aim.1 tests.1);
     })
+
+-- the clause of the call that checks
+pub checked_well : (tree : Tree) (r : Result Query SoundFault) → Gives (checked tree) r → HasText tree → IfOk r (λ q. IsWellFormed q)
+checked_well tree (Ok q) gives has = well_formed tree q (text_small tree has) gives
+checked_well tree (Err e) gives has = tt

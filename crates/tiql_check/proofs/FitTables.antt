@@ -69,7 +69,8 @@ table_fit known tree table e =
     let new = kept (is_taken known tree.name) (fault.SameName tree.name.place) (in_turn with_column [] tree.columns >>= (λ columns. in_turn (with_key_column columns) [] tree.key >>= (λ key. Ok (record { name = tree.name.name; columns = columns; key = key })))) table e in
     let columns = came_of (in_turn with_column [] tree.columns) (λ columns. in_turn (with_key_column columns) [] tree.key >>= (λ key. Ok (record { name = tree.name.name; columns = columns; key = key }))) table new.1 in
     let key = came_of (in_turn (with_key_column columns.0) [] tree.key) (λ key. Ok (record { name = tree.name.name; columns = columns.0; key = key })) table columns.2 in
-    subst IsTableFit (same_Ok _ table key.2) (record {
+    let made : QTable = record { name = tree.name.name; columns = columns.0; key = key.0 } in
+    subst IsTableFit (same_Ok made table key.2) (record {
       key = through (with_key_column columns.0) (AreColumns columns.0) (λ name. true) (key_step columns.0) tree.key [] key.0 (any_part tree.key) key.1 (All-nil (λ column. column < length columns.0));
       fixed = through with_column AreFixed (λ column. true) column_step tree.columns [] columns.0 (any_part tree.columns) columns.1 (All-nil (λ (column : Column). column.unknown ≡ false));
     })
@@ -123,7 +124,8 @@ hypo_fit known tree hypo e small =
         let set = came_of (in_turn (with_bound (bare_scope table) table) [] tree.set) (λ set. filter_in (bare_scope table) tree.filter >>= (λ filter. droppable table tree.dropped >>= (λ dropped. Ok (record { name = tree.name.name; table = number; columns = with_set set 0 table.columns; set = set; filter = filter; droppable = dropped })))) hypo h in
         let filter = came_of (filter_in (bare_scope table) tree.filter) (λ filter. droppable table tree.dropped >>= (λ dropped. Ok (record { name = tree.name.name; table = number; columns = with_set set.0 0 table.columns; set = set.0; filter = filter; droppable = dropped }))) hypo set.2 in
         let dropped = came_of (droppable table tree.dropped) (λ dropped. Ok (record { name = tree.name.name; table = number; columns = with_set set.0 0 table.columns; set = set.0; filter = filter.0; droppable = dropped })) hypo filter.2 in
-        subst (IsHypoFit known.query) (same_Ok _ hypo dropped.2) (record {
+        let made : QHypo = record { name = tree.name.name; table = number; columns = with_set set.0 0 table.columns; set = set.0; filter = filter.0; droppable = dropped.0 } in
+        subst (IsHypoFit known.query) {x = made} (same_Ok made hypo dropped.2) (record {
           table = table;
           there = there;
           columns = refl;

@@ -10,4 +10,5 @@ pub mod FitConds
 pub mod FitTables
 pub mod FitSelects
 pub mod FitViews
+pub mod SmallText
 pub mod FitQuery

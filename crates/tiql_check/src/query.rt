@@ -1,6 +1,7 @@
 //! The check of a whole query.
 ghost use Rattle.std.specs.Prelude.{◌≡◌, ◌≢◌, IfOk, IfErr};
 ghost use Rattle.tiql_query.specs.WellFormed.{IsWellFormed};
+ghost use Rattle.tiql_tree.specs.Unplaced.{HasText};
 ghost use Rattle.tiql_check.specs.Sound as spec;
 ghost use Rattle.tiql_check.specs.Sound.{Sound, FirstBroken};
 ghost use Rattle.tiql_check.specs.Known.{nothing};
@@ -152,6 +153,7 @@ fn check_tree(alloc: Global, tree: &Tree) -> Result<Query, SoundFault>
 pub fn check(alloc: Global, tree: &Tree) -> Result<Query, SoundFault>
     ensures sound { IfOk result (λ query. Sound tree.now query) }
     ensures broken { IfErr result (λ fault. fault ≢ SoundFault.Memory → FirstBroken tree.now fault) }
+    ensures well_formed { HasText tree.now → IfOk result (λ query. IsWellFormed query) }
 {
     check_tree(alloc, tree)
 }
