@@ -66,12 +66,14 @@ candidates_there ref n front (it ∷ rest) at =
   where
     here : slice_get (cols (front ++ it ∷ rest)) n ≡ Some it.columns
     here = ap (λ l. slice_get l n) (map-append (λ (it : Seen). it.columns) front (it ∷ rest)) ∙ at_front (cols front) it.columns (cols rest) n (at ∙ sym (length-map front (λ (it : Seen). it.columns)))
+
     fitting_there : (found : Found) → fitting ref it ≡ Some found → Stands it.columns found
     fitting_there found is = by_may (may_qualify ref.relation it.alias) refl is
       where
         by_may : (b : Bool) → may_qualify ref.relation it.alias ≡ b → (if may_qualify ref.relation it.alias then column_named ref.column 0 it.columns else None) ≡ Some found → Stands it.columns found
         by_may true may h = column_there ref.column 0 [] it.columns found refl (sym (rw may refl) ∙ h)
         by_may false may h = absurd (let e : None ≡ Some found = sym (rw may refl) ∙ h in cc)
+
     by_fit : AllByRecursion (IsThere (front ++ it ∷ rest)) (candidates ref (n + 1) rest) → (o : Option Found) → fitting ref it ≡ o → AllByRecursion (IsThere (front ++ it ∷ rest)) (of_source n (fitting ref it) ++ candidates ref (n + 1) rest)
     by_fit more None is = rw is more
     by_fit more (Some found) is = rw is (source_there (front ++ it ∷ rest) n it found here (fitting_there found is), more)

@@ -70,9 +70,9 @@ module _ (scope : Scope) where
       let same = kept (differ ((left.0).kind).text ((right.0).kind).text) (fault.WrongType other.place) (Ok (Compare (cmp_of cmp) (left.0).expr (right.0).expr)) cond right.2 in
       subst (λ (c : Cond). is_fit (cols scope) c ≡ true) (same_Ok (Compare (cmp_of cmp) (left.0).expr (right.0).expr) cond same.1)
       (fit-Compare (cols scope) (cmp_of cmp) (left.0).expr (right.0).expr
-        ∙ ap (λ k. are_alike k (kind (cols scope) (right.0).expr)) (typed_fit scope one left.0 left.1 small_one)
-        ∙ ap (are_alike (Some (as_kind (left.0).kind))) (typed_fit scope other right.0 right.1 small_other)
-        ∙ alike_texts ((left.0).kind).text ((right.0).kind).text same.0)
+      ∙ ap (λ k. are_alike k (kind (cols scope) (right.0).expr)) (typed_fit scope one left.0 left.1 small_one)
+      ∙ ap (are_alike (Some (as_kind (left.0).kind))) (typed_fit scope other right.0 right.1 small_other)
+      ∙ alike_texts ((left.0).kind).text ((right.0).kind).text same.0)
 
   CondFit : TreeCond → Type 0
   CondFit c = (cond : Cond) → cond_in scope c ≡ Ok cond → small_cond c ≡ true → is_fit (cols scope) cond ≡ true
@@ -89,7 +89,7 @@ module _ (scope : Scope) where
       let part = came_of (cond_in scope c) (λ cond. Ok (before ++ cond ∷ [])) next e in
       subst AllFit (same_Ok (before ++ part.0 ∷ []) next part.2)
       (ap all_true (map-append (is_fit (cols scope)) before (part.0 ∷ [])) ∙ list_all-append (λ test. test) (map (is_fit (cols scope)) before) (is_fit (cols scope) part.0 ∷ [])
-        ∙ both_true (all_true (map (is_fit (cols scope)) before)) (is_fit (cols scope) part.0 && true) p (both_true (is_fit (cols scope) part.0) true (fit part.0 part.1 small) refl))
+      ∙ both_true (all_true (map (is_fit (cols scope)) before)) (is_fit (cols scope) part.0 && true) p (both_true (is_fit (cols scope) part.0) true (fit part.0 part.1 small) refl))
 
   cond_layer : (y : TreeCond-F WithCond) → CondFit (roll-TreeCond (map-TreeCond WithCond TreeCond (λ c. c.0) y))
   unfolding roll-TreeCond roll CondFit

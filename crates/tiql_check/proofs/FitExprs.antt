@@ -119,7 +119,7 @@ module _ (scope : Scope) where
       let here : kind (cols scope) (whole.0).expr ≡ Some (as_kind (whole.0).kind) = fit whole.0 operand.0 small in
       subst TermsFit (same_Ok (add_term before s.minus whole.0) next whole.2)
       (ap arithmetic (map-append (signed_kind (cols scope)) before.parts (checks.signed s.minus (whole.0).expr ∷ [])
-        ∙ ap (λ k. map (signed_kind (cols scope)) before.parts ++ k ∷ []) (signed_kind-is (cols scope) (checks.signed s.minus (whole.0).expr) ∙ here))
+      ∙ ap (λ k. map (signed_kind (cols scope)) before.parts ++ k ∷ []) (signed_kind-is (cols scope) (checks.signed s.minus (whole.0).expr) ∙ here))
       ∙ arithmetic-push (map (signed_kind (cols scope)) before.parts) (query.number before.unknown) (as_kind (whole.0).kind) p operand.1)
 
   abbrev FactorsFit : Factors → Type 0
@@ -135,7 +135,7 @@ module _ (scope : Scope) where
       let linear = kept (is_second_unknown before whole.0) (fault.NotLinear e.place) (Ok made) next whole.2 in
       subst FactorsFit (same_Ok made next linear.1)
       (ap multiplied (map-append (kind (cols scope)) before.parts ((whole.0).expr ∷ [])
-        ∙ ap (λ k. map (kind (cols scope)) before.parts ++ k ∷ []) here)
+      ∙ ap (λ k. map (kind (cols scope)) before.parts ++ k ∷ []) here)
       ∙ multiplied-push (map (kind (cols scope)) before.parts) (query.number before.unknown) (as_kind (whole.0).kind) p operand.1 linear.0)
 
   arithmetic-one : (k : Kind) → k.text ≡ false → arithmetic (Some (as_kind k) ∷ []) ≡ Some (query.number k.unknown)

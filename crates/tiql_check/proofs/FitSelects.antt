@@ -137,18 +137,18 @@ unfolding items_in
 arm_made known first taken select filter arm p fits small e =
     let rules : Rules = record { named = first; distinct = select.distinct; grouped = is_grouped select } in
     let whole : List At → Items → Arm = λ group all. record {
-          select = record { distinct = select.distinct; sources = taken.sources; filter = filter; group = group_if (is_grouped select) group; items = all.items };
-          columns = all.columns;
-        } in
+      select = record { distinct = select.distinct; sources = taken.sources; filter = filter; group = group_if (is_grouped select) group; items = all.items };
+      columns = all.columns;
+    } in
     let last : List At → Items → Result Arm SoundFault = λ group all. if is_grouped select && select.distinct then Err (fault.NotGrouped select.place) else Ok (whole group all) in
     let group = came_of (in_turn (with_group taken.scope) [] select.group) (λ group. in_turn (with_item rules taken.scope group) no_items select.items >>= last group) arm e in
     let all = came_of (in_turn (with_item rules taken.scope group.0) no_items select.items) (last group.0) arm group.2 in
     let once = kept (is_grouped select && select.distinct) (fault.NotGrouped select.place) (Ok (whole group.0 all.0)) arm all.2 in
     let items = through (with_item rules taken.scope group.0) (ItemsFit taken.scope select.distinct) (λ (item : TreeItem). small_value item.value) (item_step rules taken.scope group.0) select.items no_items all.0 small all.1
-        (record { kinds = refl; fixed = λ distinct. All-nil (λ it. is_unknown it ≡ false) }) in
+    (record { kinds = refl; fixed = λ distinct. All-nil (λ it. is_unknown it ≡ false) }) in
     let kinds : map (item_kind (map (λ source. unwrap_or (columns_of known.query source) []) taken.sources)) (all.0).items ≡ map told (all.0).columns =
-        ap (λ (scope : query.Scope). map (item_kind scope) (all.0).items) p.scope ∙ items.kinds in
-    subst (ArmFit known) (same_Ok (whole group.0 all.0) arm once.1) (record {
+    ap (λ (scope : query.Scope). map (item_kind scope) (all.0).items) p.scope ∙ items.kinds in
+    subst (ArmFit known) {x = whole group.0 all.0} (same_Ok (whole group.0 all.0) arm once.1) (record {
       sources = p.there;
       filter = ap (λ scope. is_fit_filter scope filter) p.scope ∙ fits;
       group = subst (λ scope. All (IsFixedColumn scope) (unwrap_or (group_if (is_grouped select) group.0) [])) (sym p.scope)

