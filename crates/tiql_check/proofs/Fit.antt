@@ -1,25 +1,18 @@
 -- what is checked fits: expressions have the kind that is told of them, and conditions compare what is alike
-use Rattle.std.proofs.Common.{◌≡◌, ℕ, ℤ, ◌+◌, ◌^◌, Bool, true, false, ◌||◌, ◌&&◌, not, List, [], ◌∷◌, ◌++◌, length, suc, get_or, map, refl, sym, ◌∙◌, ap, subst, append_assoc, arith, unsigned_abs, if◌then◌else◌}
-use Rattle.std.specs.Prelude.{Option, Some, None, unwrap_or, slice_get, option_map, Result, Ok, Err, IsTrue, nat_le}
-use Rattle.std.specs.List.{list_all, AllByRecursion}
+use Rattle.std.proofs.Common.{◌≡◌, ℕ, ◌+◌, Bool, true, false, List, [], ◌∷◌, ◌++◌, length, suc, get_or, map, refl, sym, ◌∙◌, ap, subst, append_assoc, arith, if◌then◌else◌}
+use Rattle.std.specs.Prelude.{Option, Some, None, slice_get}
+use Rattle.std.specs.List.{AllByRecursion}
 use Rattle.std.proofs.lemmas.List.{map-append, length-append, length-map}
-use Rattle.std.proofs.lemmas.List.Folds.{list_all-append}
-use Rattle.std.proofs.lemmas.Option.{slice_get-get_or, slice_get-map}
+use Rattle.std.proofs.lemmas.Option.{slice_get-get_or}
 use Rattle.std.proofs.Math.Seq.{get_or-append_seam}
-use Rattle.base_kit.specs.declared.place.Place.{Place}
 use Rattle.tiql_query.specs.declared.relation.Column.{Column}
-use Rattle.tiql_query.specs.declared.condition.Cond.{Cond}
 use Rattle.tiql_query.specs.Kinds as query
 use Rattle.tiql_query.specs.Kinds.{kind_at, arithmetic, multiplied, kind, is_fit}
-use Rattle.tiql_query.proofs.KindFacts.{signed_kind, signed_kind-is, kind-Int, kind-Text, kind-Column, kind-Sum, kind-Product, kind-Neg, kind-Abs, fit-Compare, fit-Not, fit-And, fit-Or, arithmetic-push, multiplied-push}
 use Rattle.tiql_tree.specs.declared.expression.TreeRef.{TreeRef}
-use Rattle.tiql_check.specs.declared.fault.SoundFault.{SoundFault}
-use Rattle.tiql_check.specs.declared.fault.SoundFault.TheVariants as fault
 use Rattle.tiql_check.specs.declared.scope.Kind.{Kind}
 use Rattle.tiql_check.specs.declared.scope.Found.{Found}
 use Rattle.tiql_check.specs.declared.scope.Meant.{Meant}
-use Rattle.tiql_check.specs.declared.expression.Typed.{Typed}
-use Rattle.tiql_check.specs.Scopes.{same, Seen, Scope, kind_of, column_named, may_qualify, fitting, of_source, candidates, only_one, meant}
+use Rattle.tiql_check.specs.Scopes.{same, Seen, Scope, kind_of, column_named, may_qualify, fitting, of_source, candidates}
 
 -- the columns of each source
 abbrev pub cols : Scope → query.Scope

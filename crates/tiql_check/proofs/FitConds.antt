@@ -1,7 +1,6 @@
 -- what a checked condition compares is alike, and an item has the kind that is told of it
-use Rattle.std.proofs.Common.{◌≡◌, ℕ, Bool, true, false, ◌&&◌, not, List, [], ◌∷◌, ◌++◌, map, refl, sym, ◌∙◌, ap, subst, if◌then◌else◌}
-use Rattle.std.specs.Prelude.{Option, Some, None, Result, Ok, Err}
-use Rattle.std.specs.List.{list_all}
+use Rattle.std.proofs.Common.{◌≡◌, Bool, true, false, ◌&&◌, not, List, [], ◌∷◌, ◌++◌, map, refl, sym, ◌∙◌, ap, subst, if◌then◌else◌}
+use Rattle.std.specs.Prelude.{Option, Some, None, Ok, Err}
 use Rattle.std.proofs.lemmas.Bool.{false≢true}
 use Rattle.std.proofs.lemmas.List.{map-append}
 use Rattle.std.proofs.lemmas.List.Folds.{list_all-append}
@@ -10,7 +9,6 @@ use Rattle.tiql_query.specs.declared.condition.Cond.{Cond}
 use Rattle.tiql_query.specs.declared.condition.Cond.TheVariants.{Compare}
 use Rattle.tiql_query.specs.declared.condition.Cond.TheViews as conds
 use Rattle.tiql_query.specs.declared.view.Item.TheVariants as items
-use Rattle.tiql_query.specs.Kinds as query
 use Rattle.tiql_query.specs.Kinds.{kind, is_fit, are_alike, is_fit_filter}
 use Rattle.tiql_query.specs.WellFormed.{aggregate, item_kind}
 use Rattle.tiql_query.proofs.KindFacts.{fit-Compare, fit-Not, fit-And, fit-Or}
@@ -23,12 +21,10 @@ use Rattle.tiql_tree.specs.declared.condition.TreeCond.TheViews.{Not, And, Or, r
 use Rattle.tiql_tree.specs.declared.expression.TreeExpr.{TreeExpr}
 use Rattle.tiql_tree.specs.declared.tree.TreeValue.{TreeValue}
 use Rattle.tiql_tree.specs.declared.tree.TreeValue.TheVariants as values
-use Rattle.tiql_check.specs.declared.fault.SoundFault.{SoundFault}
 use Rattle.tiql_check.specs.declared.fault.SoundFault.TheVariants as fault
-use Rattle.tiql_check.specs.declared.expression.Typed.{Typed}
 use Rattle.tiql_check.specs.declared.item.TypedItem.{TypedItem}
 use Rattle.tiql_check.specs.Turns.{◌>>=◌, in_turn}
-use Rattle.tiql_check.specs.Scopes.{Scope, number}
+use Rattle.tiql_check.specs.Scopes.{Scope}
 use Rattle.tiql_check.specs.Expressions.{typed_in, number_in}
 use Rattle.tiql_check.specs.Conditions.{differ, cmp_of, compared, with_part, cond_in, filter_in}
 use Rattle.tiql_check.specs.Selects as selects

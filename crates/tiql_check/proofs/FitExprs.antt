@@ -1,25 +1,15 @@
 -- a checked expression has the kind that is told of it, and what a checked condition compares is alike
-use Rattle.std.proofs.Common.{◌≡◌, ℕ, ℤ, ◌^◌, Bool, true, false, ◌||◌, ◌&&◌, not, List, [], ◌∷◌, ◌++◌, map, refl, sym, ◌∙◌, ap, subst, unsigned_abs, if◌then◌else◌}
-use Rattle.std.specs.Prelude.{Option, Some, None, Result, Ok, Err, IsTrue, nat_le}
-use Rattle.std.specs.List.{list_all, AllByRecursion}
+use Rattle.std.proofs.Common.{◌≡◌, ℤ, ◌^◌, Bool, true, false, ◌||◌, List, [], ◌∷◌, ◌++◌, map, refl, sym, ◌∙◌, ap, subst, unsigned_abs}
+use Rattle.std.specs.Prelude.{Some, Ok, Err, nat_le}
+use Rattle.std.specs.List.{AllByRecursion}
 use Rattle.std.proofs.lemmas.List.{map-append}
-use Rattle.std.proofs.lemmas.List.Folds.{list_all-append}
 use denote.Hole.Carrier.{roll}
 use Rattle.base_kit.specs.declared.place.Place.{Place}
-use Rattle.tiql_query.specs.declared.condition.Cond.{Cond}
-use Rattle.tiql_query.specs.declared.condition.Cond.TheVariants.{Compare}
-use Rattle.tiql_query.specs.declared.condition.Cond.TheViews as conds
-use Rattle.tiql_query.specs.declared.expression.Expr.{Expr}
 use Rattle.tiql_query.specs.declared.expression.Expr.TheVariants as exprs
 use Rattle.tiql_query.specs.declared.expression.Expr.TheViews as exprs_of
 use Rattle.tiql_query.specs.Kinds as query
 use Rattle.tiql_query.specs.Kinds.{kind_at, arithmetic, multiplied, kind, is_fit, are_alike}
-use Rattle.tiql_query.proofs.KindFacts.{signed_kind, signed_kind-is, kind-Int, kind-Text, kind-Column, kind-Sum, kind-Product, kind-Neg, kind-Abs, fit-Compare, fit-Not, fit-And, fit-Or, arithmetic-push, multiplied-push}
-use Rattle.tiql_tree.specs.declared.condition.TreeCmp.{TreeCmp}
-use Rattle.tiql_tree.specs.declared.condition.TreeCond.{TreeCond}
-use Rattle.tiql_tree.specs.declared.condition.TreeCond.TheOpen.{TreeCond-F}
-use Rattle.tiql_tree.specs.declared.condition.TreeCond.TheFolds.{ind-TreeCond, map-TreeCond, fold-roll-TreeCond}
-use Rattle.tiql_tree.specs.declared.condition.TreeCond.TheViews.{roll-TreeCond}
+use Rattle.tiql_query.proofs.KindFacts.{signed_kind, signed_kind-is, kind-Int, kind-Text, kind-Column, kind-Sum, kind-Product, kind-Neg, kind-Abs, arithmetic-push, multiplied-push}
 use Rattle.tiql_tree.specs.declared.expression.TreeRef.{TreeRef}
 use Rattle.tiql_tree.specs.declared.expression.TreeExpr.{TreeExpr, ind-TreeExpr, roll-TreeExpr, fold_out-TreeExpr}
 use Rattle.tiql_tree.specs.declared.expression.TreeSigned.{TreeSigned, roll-TreeSigned, fold_out-TreeSigned}
@@ -29,21 +19,19 @@ use Rattle.tiql_tree.specs.declared.expression.TreeForm.TheFolds.{map-TreeForm, 
 use Rattle.tiql_tree.specs.declared.expression.TreeForm.TheVariants.{Number}
 use Rattle.tiql_tree.specs.declared.expression.TreeForm.TheViews.{Sum, Product, Neg, Abs, roll-TreeForm}
 use Rattle.tiql_tree.specs.Trees.{expr_at, signed}
-use Rattle.tiql_check.specs.declared.fault.SoundFault.{SoundFault}
 use Rattle.tiql_check.specs.declared.fault.SoundFault.TheVariants as fault
 use Rattle.tiql_check.specs.declared.scope.Kind.{Kind}
 use Rattle.tiql_check.specs.declared.scope.Meant.{Meant}
 use Rattle.tiql_check.specs.declared.expression.Typed.{Typed}
 use Rattle.tiql_check.specs.declared.expression.Terms.{Terms}
 use Rattle.tiql_check.specs.declared.expression.Factors.{Factors}
-use Rattle.tiql_check.specs.Turns.{◌>>=◌, in_turn}
+use Rattle.tiql_check.specs.Turns.{in_turn}
 use Rattle.tiql_check.specs.Scopes.{Scope, number, candidates, only_one, meant}
 use Rattle.tiql_check.specs.Expressions as checks
 use Rattle.tiql_check.specs.Expressions.{Part, SignedPart, as_number, whole_number, add_term, with_term, no_terms, add_factor, with_factor, no_factors, is_second_unknown, negated, absolute, part_in, signed_in, form_in, typed_in, number_in}
-use Rattle.tiql_check.specs.Conditions.{differ, cmp_of, compared, with_part, cond_in, filter_in}
-use Rattle.tiql_check.specs.Small.{all_true, small_step, small_expr_step, small_signed_step, small_expr, small_signed, small_form, small_cond_step, small_cond, small_filter}
-use Rattle.tiql_check.proofs.Inverse.{came_of, kept, same_Ok, both, both_true, through_seen}
-use Rattle.tiql_check.proofs.Forms.{part_in-is, signed_in-is, formed-Number, formed-Text, formed-Ref, formed-Sum, formed-Product, formed-Neg, formed-Abs, term-by, factor-by, cond-Compare, cond-Not, cond-And, cond-Or}
+use Rattle.tiql_check.specs.Small.{all_true, small_step, small_expr_step, small_signed_step, small_expr, small_signed, small_form}
+use Rattle.tiql_check.proofs.Inverse.{came_of, kept, same_Ok, through_seen}
+use Rattle.tiql_check.proofs.Forms.{part_in-is, formed-Number, formed-Text, formed-Ref, formed-Sum, formed-Product, formed-Neg, formed-Abs, term-by, factor-by}
 use Rattle.tiql_check.proofs.Fit.{cols, as_kind, IsThere, candidates_there}
 
 pub small_expr-is : (e : TreeExpr) → small_expr e ≡ small_form e.form

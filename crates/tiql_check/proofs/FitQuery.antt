@@ -1,5 +1,5 @@
 -- a checked query is well formed
-use Rattle.std.proofs.Common.{◌≡◌, ℕ, zero, suc, ◌+◌, ◌<◌, ◌≤◌, Bool, true, false, ◌&&◌, ◌||◌, List, [], ◌∷◌, ◌++◌, length, map, refl, sym, ◌∙◌, ap, subst, arith, ◌⊎◌, inl, inr}
+use Rattle.std.proofs.Common.{◌≡◌, ℕ, zero, suc, ◌+◌, ◌<◌, ◌≤◌, Bool, true, false, ◌||◌, List, [], ◌∷◌, ◌++◌, length, map, refl, sym, ◌∙◌, ap, subst, arith, ◌⊎◌, inl, inr}
 use Rattle.std.specs.Prelude.{Option, Some, None, unwrap_or, slice_get, option_map, Result, Ok, Err, All, IfOk}
 use Rattle.std.specs.List.{list_all, list_any}
 use Rattle.std.proofs.lemmas.List.{length-append}
@@ -21,9 +21,8 @@ use Rattle.tiql_query.specs.declared.aim.Aim.TheVariants as aims
 use Rattle.tiql_query.specs.declared.query.Query.{Query}
 use Rattle.tiql_query.specs.Kinds as query
 use Rattle.tiql_query.specs.Kinds.{kind, is_fit, is_number, is_unknown, is_fit_filter}
-use Rattle.tiql_query.specs.WellFormed.{columns_of, IsOver, IsTableFit, IsHypoFit, IsEarlier, scope_of, item_kind, item_kinds, IsFixedColumn, IsSelectFit, IsViewFit, IsRequireFit, IsAimFit, IsWellFormed}
+use Rattle.tiql_query.specs.WellFormed.{columns_of, IsOver, IsTableFit, IsHypoFit, IsEarlier, item_kind, item_kinds, IsFixedColumn, IsSelectFit, IsViewFit, IsRequireFit, IsAimFit, IsWellFormed}
 use Rattle.tiql_tree.specs.declared.condition.TreeCond.{TreeCond}
-use Rattle.tiql_tree.specs.declared.expression.TreeExpr.{TreeExpr}
 use Rattle.tiql_tree.specs.declared.tree.Spot.{Spot}
 use Rattle.tiql_tree.specs.declared.tree.Tree.{Tree}
 use Rattle.tiql_tree.specs.declared.tree.Decl.{Decl}
@@ -43,9 +42,8 @@ use Rattle.tiql_check.specs.Tables.{checked_table}
 use Rattle.tiql_check.specs.Hypos.{checked_hypo}
 use Rattle.tiql_check.specs.Views.{checked_view}
 use Rattle.tiql_check.specs.Sound.{relation_scope, have, checked_require, with_decl, summed, checked_goal, checked}
-use Rattle.tiql_check.specs.Small.{small_expr, small_cond, small_require, small_decl, small_goal, HasSmallNumbers}
+use Rattle.tiql_check.specs.Small.{small_cond, small_require, small_decl, small_goal, HasSmallNumbers}
 use Rattle.tiql_check.proofs.Inverse.{came_of, same_Ok, both, through}
-use Rattle.tiql_check.proofs.Fit.{cols}
 use Rattle.tiql_check.proofs.FitExprs.{number_fit}
 use Rattle.tiql_check.proofs.FitConds.{cond_fit}
 use Rattle.tiql_check.proofs.FitTables.{table_fit, hypo_fit}

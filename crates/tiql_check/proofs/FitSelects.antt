@@ -1,15 +1,12 @@
 -- checked selects fit
-use Rattle.std.proofs.Common.{◌≡◌, ℕ, ◌+◌, ◌<◌, Bool, true, false, ◌&&◌, not, List, [], ◌∷◌, ◌++◌, length, map, refl, sym, ◌∙◌, ap, subst, if◌then◌else◌}
-use Rattle.std.specs.Prelude.{Option, Some, None, unwrap_or, slice_get, option_map, Result, Ok, Err, All}
+use Rattle.std.proofs.Common.{◌≡◌, ℕ, Bool, true, false, ◌&&◌, not, List, [], ◌∷◌, ◌++◌, length, map, refl, sym, ◌∙◌, ap, subst, if◌then◌else◌}
+use Rattle.std.specs.Prelude.{Option, Some, None, unwrap_or, Result, Ok, Err, All}
 use Rattle.std.specs.List.{list_all}
 use Rattle.std.proofs.lemmas.List.{map-append}
 use Rattle.std.proofs.lemmas.List.Elements.{All-nil, All-push, All-head, All-tail}
 use Rattle.tiql_query.specs.declared.relation.Source.{Source}
-use Rattle.tiql_query.specs.declared.relation.Column.{Column}
 use Rattle.tiql_query.specs.declared.expression.At.{At}
 use Rattle.tiql_query.specs.declared.condition.Cond.{Cond}
-use Rattle.tiql_query.specs.declared.view.Item.{Item}
-use Rattle.tiql_query.specs.declared.view.Select.{Select}
 use Rattle.tiql_query.specs.Kinds as query
 use Rattle.tiql_query.specs.Kinds.{kind_at, is_unknown, is_fit_filter}
 use Rattle.tiql_query.specs.WellFormed.{columns_of, IsEarlier, scope_of, item_kind, item_kinds, IsFixedColumn}
@@ -20,8 +17,6 @@ use Rattle.tiql_tree.specs.declared.tree.TreeSelect.{TreeSelect}
 use Rattle.tiql_tree.specs.declared.tree.TreeSource.{TreeSource}
 use Rattle.tiql_check.specs.declared.fault.SoundFault.{SoundFault}
 use Rattle.tiql_check.specs.declared.fault.SoundFault.TheVariants as fault
-use Rattle.tiql_check.specs.declared.scope.Kind.{Kind}
-use Rattle.tiql_check.specs.declared.scope.Meant.{Meant}
 use Rattle.tiql_check.specs.declared.known.Relation.{Relation}
 use Rattle.tiql_check.specs.declared.known.Known.{Known}
 use Rattle.tiql_check.specs.declared.item.TypedItem.{TypedItem}
@@ -36,7 +31,7 @@ use Rattle.tiql_check.specs.Known.{relation_named, declared_at, declared, column
 use Rattle.tiql_check.specs.Selects.{Taken, none_taken, has_alias, with_source, with_group, is_grouped, value_in, fits_group, has_name, item_ruled, no_items, with_item, group_if, items_in, checked_select}
 use Rattle.tiql_check.specs.Small.{small_filter, small_value, small_select}
 use Rattle.tiql_check.proofs.Inverse.{came_of, kept, same_Ok, both, through}
-use Rattle.tiql_check.proofs.Fit.{cols, as_kind, IsThere}
+use Rattle.tiql_check.proofs.Fit.{cols, as_kind}
 use Rattle.tiql_check.proofs.FitExprs.{meant_there}
 use Rattle.tiql_check.proofs.FitConds.{filter_fit, ItemFit, value_fit}
 use Rattle.tiql_check.proofs.FitTables.{any_part}

@@ -1,30 +1,26 @@
 -- checked tables and hypothetical tables fit
-use Rattle.std.proofs.Common.{◌≡◌, ℕ, ◌+◌, ◌<◌, ◌==◌, Bool, true, false, ◌&&◌, not, List, [], ◌∷◌, ◌++◌, length, map, refl, sym, ◌∙◌, ap, subst, if◌then◌else◌}
-use Rattle.std.specs.Prelude.{Option, Some, None, unwrap_or, slice_get, Result, Ok, Err, All}
+use Rattle.std.proofs.Common.{◌≡◌, ℕ, ◌<◌, true, false, ◌&&◌, not, List, [], ◌∷◌, ◌++◌, length, refl, sym, ◌∙◌, ap, subst, if◌then◌else◌}
+use Rattle.std.specs.Prelude.{Option, Some, None, slice_get, Ok, Err, All}
 use Rattle.std.specs.List.{list_all}
 use Rattle.std.proofs.lemmas.List.Elements.{All-nil, All-push}
 use Rattle.std.proofs.lemmas.Option.{slice_get_within}
-use Rattle.base_kit.specs.declared.place.Place.{Place}
 use Rattle.tiql_query.specs.declared.relation.Column.{Column}
 use Rattle.tiql_query.specs.declared.relation.QTable.{QTable}
 use Rattle.tiql_query.specs.declared.relation.QBound.{QBound}
 use Rattle.tiql_query.specs.declared.relation.QHypo.{QHypo}
-use Rattle.tiql_query.specs.declared.condition.Cond.{Cond}
-use Rattle.tiql_query.specs.Kinds as query
-use Rattle.tiql_query.specs.Kinds.{kind_at, kind, is_number, is_fit_filter}
+use Rattle.tiql_query.specs.Kinds.{kind_at, is_number}
 use Rattle.tiql_query.specs.WellFormed.{IsTableFit, IsBoundFit, IsHypoFit, with_set}
 use Rattle.tiql_tree.specs.declared.tree.Spot.{Spot}
 use Rattle.tiql_tree.specs.declared.tree.TreeColumn.{TreeColumn}
 use Rattle.tiql_tree.specs.declared.tree.TreeTable.{TreeTable}
 use Rattle.tiql_tree.specs.declared.tree.TreeBound.{TreeBound}
 use Rattle.tiql_tree.specs.declared.tree.TreeHypo.{TreeHypo}
-use Rattle.tiql_check.specs.declared.fault.SoundFault.{SoundFault}
 use Rattle.tiql_check.specs.declared.fault.SoundFault.TheVariants as fault
 use Rattle.tiql_check.specs.declared.scope.Kind.{Kind}
 use Rattle.tiql_check.specs.declared.scope.Found.{Found}
 use Rattle.tiql_check.specs.declared.known.Known.{Known}
 use Rattle.tiql_check.specs.Turns.{◌>>=◌, in_turn}
-use Rattle.tiql_check.specs.Scopes.{Scope, kind_of, column_named}
+use Rattle.tiql_check.specs.Scopes.{Scope, column_named}
 use Rattle.tiql_check.specs.Expressions.{number_in}
 use Rattle.tiql_check.specs.Conditions.{filter_in}
 use Rattle.tiql_check.specs.Known.{is_taken}
@@ -32,7 +28,7 @@ use Rattle.tiql_check.specs.Tables.{has_column, with_column, is_among, key_colum
 use Rattle.tiql_check.specs.Hypos.{base_number, bare_scope, is_set, set_column, with_bound, droppable, over_table, table_at, checked_hypo}
 use Rattle.tiql_check.specs.Small.{small_expr, small_bound, small_filter}
 use Rattle.tiql_check.proofs.Inverse.{came_of, kept, same_Ok, both, through}
-use Rattle.tiql_check.proofs.Fit.{cols, as_kind, column_there}
+use Rattle.tiql_check.proofs.Fit.{column_there}
 use Rattle.tiql_check.proofs.FitExprs.{number_fit}
 use Rattle.tiql_check.proofs.FitConds.{filter_fit}
 

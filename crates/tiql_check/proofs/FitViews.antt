@@ -1,6 +1,6 @@
 -- checked views fit
-use Rattle.std.proofs.Common.{◌≡◌, ℕ, zero, suc, ◌+◌, ◌<◌, ◌==◌, Bool, true, false, ◌&&◌, ◌||◌, not, List, [], ◌∷◌, ◌++◌, length, map, refl, sym, ◌∙◌, ap, subst, append_assoc, arith, if◌then◌else◌}
-use Rattle.std.specs.Prelude.{Option, Some, None, unwrap_or, slice_get, option_map, Result, Ok, Err, All, nat_eq}
+use Rattle.std.proofs.Common.{◌≡◌, ℕ, zero, suc, ◌+◌, ◌==◌, Bool, true, false, ◌||◌, not, List, [], ◌∷◌, ◌++◌, length, map, refl, sym, ◌∙◌, ap, subst, append_assoc, arith, if◌then◌else◌}
+use Rattle.std.specs.Prelude.{Option, Some, None, unwrap_or, slice_get, option_map, Ok, Err, All}
 use Rattle.std.specs.List.{list_all, list_any}
 use Rattle.std.proofs.lemmas.Bool.{false≢true}
 use Rattle.std.proofs.lemmas.Bool.Decides.{nat_tests}
@@ -8,7 +8,6 @@ use Rattle.std.proofs.lemmas.List.{append-nil, length-append}
 use Rattle.std.proofs.lemmas.List.Folds.{list_any-append}
 use Rattle.std.proofs.lemmas.List.Elements.{All-nil, All-push, All-weaker}
 use Rattle.std.proofs.lemmas.Option.{slice_get-map}
-use Rattle.base_kit.specs.declared.place.Place.{Place}
 use Rattle.tiql_query.specs.declared.relation.Column.{Column}
 use Rattle.tiql_query.specs.declared.view.Select.{Select}
 use Rattle.tiql_query.specs.declared.view.QView.{QView}
@@ -18,7 +17,6 @@ use Rattle.tiql_query.specs.Kinds.{is_unknown}
 use Rattle.tiql_query.specs.WellFormed.{item_kinds, IsSelectFit, IsViewFit}
 use Rattle.tiql_tree.specs.declared.tree.TreeSelect.{TreeSelect}
 use Rattle.tiql_tree.specs.declared.tree.TreeView.{TreeView}
-use Rattle.tiql_check.specs.declared.fault.SoundFault.{SoundFault}
 use Rattle.tiql_check.specs.declared.fault.SoundFault.TheVariants as fault
 use Rattle.tiql_check.specs.declared.known.Known.{Known}
 use Rattle.tiql_check.specs.declared.item.ItemColumn.{ItemColumn}
@@ -31,7 +29,7 @@ use Rattle.tiql_check.specs.Selects.{is_written, checked_select}
 use Rattle.tiql_check.specs.Views.{first_column, joined_column, with_joined, joined, is_first, no_arms, with_arm, checked_view}
 use Rattle.tiql_check.specs.Small.{small_select}
 use Rattle.tiql_check.proofs.Inverse.{came_of, kept, same_Ok, through}
-use Rattle.tiql_check.proofs.Fit.{as_kind, at_front}
+use Rattle.tiql_check.proofs.Fit.{at_front}
 use Rattle.tiql_check.proofs.FitSelects.{AreThere, told, ArmFit, select_fit}
 
 abbrev type_of : Column → Bool

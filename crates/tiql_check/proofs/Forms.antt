@@ -1,8 +1,7 @@
 -- what the check of an expression or condition comes to, by its form
-use Rattle.std.proofs.Common.{◌≡◌, ◌≢◌, ℕ, ℤ, Bool, true, false, List, [], ◌∷◌, ◌++◌, map, refl, sym, ◌∙◌, ap}
+use Rattle.std.proofs.Common.{◌≡◌, ◌≢◌, ℕ, ℤ, true, false, List, [], ◌∷◌, ◌++◌, map, refl, sym, ◌∙◌, ap}
 use Rattle.std.specs.Prelude.{Result, Ok, Err}
 use denote.Hole.Carrier.{roll}
-use Rattle.base_kit.specs.declared.place.Place.{Place}
 use Rattle.tiql_query.specs.declared.expression.Expr.TheVariants as exprs
 use Rattle.tiql_query.specs.declared.expression.Expr.TheViews as exprs_of
 use Rattle.tiql_query.specs.declared.condition.Cond.{Cond}
@@ -27,9 +26,9 @@ use Rattle.tiql_check.specs.declared.expression.Typed.{Typed}
 use Rattle.tiql_check.specs.declared.expression.Terms.{Terms}
 use Rattle.tiql_check.specs.declared.expression.Factors.{Factors}
 use Rattle.tiql_check.specs.Turns.{◌>>=◌, in_turn}
-use Rattle.tiql_check.specs.Scopes.{Scope, number, meant}
+use Rattle.tiql_check.specs.Scopes.{Scope, number}
 use Rattle.tiql_check.specs.Expressions.{Part, SignedPart, as_number, whole_number, add_term, with_term, no_terms, add_factor, with_factor, no_factors, named_in, sum_of, product_of, negated, absolute}
-use Rattle.tiql_check.specs.Expressions.{form_typed, expr_part, signed_part, part_in, signed_in, form_in, typed_in, number_in}
+use Rattle.tiql_check.specs.Expressions.{form_typed, expr_part, signed_part, part_in, signed_in, form_in, typed_in}
 use Rattle.tiql_check.specs.Conditions.{compared, with_part, cond_checked, cond_in}
 
 module _ (scope : Scope) where

@@ -1,10 +1,9 @@
 -- what a check that comes to something tells of its parts
-use Rattle.std.proofs.Common.{◌≡◌, ℕ, Bool, true, false, ◌&&◌, List, [], ◌∷◌, ◌++◌, map, refl, sym, ◌∙◌, ap, subst, if◌then◌else◌}
+use Rattle.std.proofs.Common.{◌≡◌, Bool, true, false, ◌&&◌, List, [], ◌∷◌, map, refl, subst, if◌then◌else◌}
 use Rattle.std.specs.Prelude.{Result, Ok, Err}
 use Rattle.std.proofs.lemmas.Bool.{false≢true}
 use Rattle.std.specs.List.{list_all}
 use Rattle.tiql_check.specs.declared.fault.SoundFault.{SoundFault}
-use Rattle.tiql_check.specs.declared.fault.SoundFault.TheVariants as fault
 use Rattle.tiql_check.specs.Turns.{◌>>=◌, in_turn}
 
 -- the first check came to something, and so did the next

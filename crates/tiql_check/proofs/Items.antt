@@ -1,5 +1,5 @@
 -- the column that an expression is by itself, by its variant
-use Rattle.std.proofs.Common.{◌≡◌, ℕ, ℤ, List, refl, sym, ◌∙◌, ap}
+use Rattle.std.proofs.Common.{◌≡◌, ℕ, ℤ, List, sym, ◌∙◌, ap}
 use Rattle.std.specs.Prelude.{Option, Some, None}
 use denote.Hole.Carrier.{roll}
 use Rattle.tiql_query.specs.declared.expression.At.{At}

@@ -1,5 +1,5 @@
 -- a tree that some text spells has small numbers, since a number that is larger is no token
-use Rattle.std.proofs.Common.{◌≡◌, ℕ, ℤ, pos, ◌+◌, ◌≤◌, ◌^◌, Bool, true, false, ◌&&◌, List, [], ◌∷◌, ◌++◌, map, length, drop, flat_map, codes, unsigned_abs, refl, sym, ◌∙◌, ap, subst, arith, if◌then◌else◌}
+use Rattle.std.proofs.Common.{◌≡◌, ℕ, pos, ◌+◌, ◌≤◌, ◌^◌, Bool, true, false, ◌&&◌, List, [], ◌∷◌, map, length, drop, flat_map, codes, unsigned_abs, refl, sym, ◌∙◌, ap, subst, arith, if◌then◌else◌}
 use Rattle.std.specs.Prelude.{nat_le}
 use Rattle.std.specs.declared.option.Option.{Option}
 use Rattle.std.specs.declared.option.Option.TheVariants.{None, Some}
@@ -10,21 +10,19 @@ use Rattle.std.proofs.lemmas.Bool.Decides.{nat_tests}
 use denote.Hole.Carrier.{roll}
 use Rattle.base_kit.specs.declared.place.Place.{Place}
 use Rattle.tiql_lex.specs.declared.token.Token.{Token}
-use Rattle.tiql_lex.specs.Lexed.{text_of, Stands, AreTokens}
-use Rattle.tiql_tree.specs.declared.condition.TreeCmp.{TreeCmp}
+use Rattle.tiql_lex.specs.Lexed.{AreTokens}
 use Rattle.tiql_tree.specs.declared.condition.TreeCond.{TreeCond}
 use Rattle.tiql_tree.specs.declared.condition.TreeCond.TheOpen.{TreeCond-F}
 use Rattle.tiql_tree.specs.declared.condition.TreeCond.TheFolds.{ind-TreeCond, map-TreeCond}
-use Rattle.tiql_tree.specs.declared.condition.TreeCond.TheVariants.{Compare}
-use Rattle.tiql_tree.specs.declared.condition.TreeCond.TheViews.{Not, And, Or, roll-TreeCond}
+use Rattle.tiql_tree.specs.declared.condition.TreeCond.TheViews.{roll-TreeCond}
 use Rattle.tiql_tree.specs.declared.expression.TreeRef.{TreeRef}
 use Rattle.tiql_tree.specs.declared.expression.TreeExpr.{TreeExpr, ind-TreeExpr, roll-TreeExpr}
 use Rattle.tiql_tree.specs.declared.expression.TreeSigned.{TreeSigned, roll-TreeSigned}
 use Rattle.tiql_tree.specs.declared.expression.TreeForm.{TreeForm}
 use Rattle.tiql_tree.specs.declared.expression.TreeForm.TheOpen.{TreeForm-F}
 use Rattle.tiql_tree.specs.declared.expression.TreeForm.TheFolds.{map-TreeForm, fold-roll-TreeForm}
-use Rattle.tiql_tree.specs.declared.expression.TreeForm.TheVariants.{Number, Text, Ref}
-use Rattle.tiql_tree.specs.declared.expression.TreeForm.TheViews.{Sum, Product, Neg, Abs, roll-TreeForm}
+use Rattle.tiql_tree.specs.declared.expression.TreeForm.TheVariants.{Text, Ref}
+use Rattle.tiql_tree.specs.declared.expression.TreeForm.TheViews.{roll-TreeForm}
 use Rattle.tiql_tree.specs.declared.tree.Tree.{Tree}
 use Rattle.tiql_tree.specs.declared.tree.Decl.{Decl}
 use Rattle.tiql_tree.specs.declared.tree.Decl.TheVariants as decls
@@ -37,9 +35,9 @@ use Rattle.tiql_tree.specs.declared.tree.TreeRequire.{TreeRequire}
 use Rattle.tiql_tree.specs.declared.tree.TreeRequire.TheVariants as needs
 use Rattle.tiql_tree.specs.declared.tree.TreeGoal.{TreeGoal}
 use Rattle.tiql_tree.specs.declared.tree.TreeGoal.TheVariants as goals
-use Rattle.tiql_tree.specs.Words.{Word, Several, parts_of, key, named, sign, with_between}
+use Rattle.tiql_tree.specs.Words.{Word, Several, parts_of, key, named, with_between}
 use Rattle.tiql_tree.specs.Texts.{ExprText, TermText, FactorText, CondText, ConjText, UnitText}
-use Rattle.tiql_tree.specs.Texts.{BoundText, HypoText, ItemText, SelectText, ViewText, RequireText, DeclText, GoalText, QueryText}
+use Rattle.tiql_tree.specs.Texts.{BoundText, ItemText, SelectText, RequireText, DeclText, GoalText, QueryText}
 use Rattle.tiql_tree.specs.Texts.ExprText.{last_term, next_term}
 use Rattle.tiql_tree.specs.Texts.TermText.{last_factor, next_factor}
 use Rattle.tiql_tree.specs.Texts.FactorText.{negated, numeral, value_text, reference, absolute, grouped}
@@ -51,15 +49,14 @@ use Rattle.tiql_tree.specs.Texts.RequireText.{all_have, some_have, none_is}
 use Rattle.tiql_tree.specs.Texts.DeclText.{table_decl, hypo_decl, view_decl, require_decl}
 use Rattle.tiql_tree.specs.Texts.GoalText.{find_goal, sum_goal}
 use Rattle.tiql_tree.specs.Grammar.{comma, in_parens, alias_words, expr_words, term_words, factor_words, cond_words, conj_words, unit_words, bound_words, bounds_words, filter_words, item_words, source_words, select_words, require_words, decl_words, goal_words, query_words}
-use Rattle.tiql_tree.specs.Trees.{Places, place, laid, laid_if, expr_at, form_of, signed, ref_tree, expr_tree, sum_parts, term_tree, product_parts, factor_tree, cond_tree, or_parts, conj_tree, and_parts, unit_tree, filter_tree, bound_tree, hypo_tree, item_tree, select_tree, view_tree, require_tree, decl_tree, goal_tree, query_tree}
+use Rattle.tiql_tree.specs.Trees.{Places, laid, laid_if, expr_at, signed, ref_tree, expr_tree, sum_parts, term_tree, product_parts, factor_tree, cond_tree, or_parts, conj_tree, and_parts, unit_tree, filter_tree, bound_tree, hypo_tree, item_tree, select_tree, view_tree, require_tree, decl_tree, goal_tree, query_tree}
 use Rattle.tiql_tree.specs.Spelled.{words_of, places_of, Spelled}
-use Rattle.tiql_tree.specs.Unplaced.{no_place, expr_only, cond_only, bound_only, value_only, item_only, select_only, require_only, decl_only, goal_only, tree_only, Spells, HasText}
+use Rattle.tiql_tree.specs.Unplaced.{no_place, expr_only, cond_only, bound_only, value_only, item_only, select_only, require_only, decl_only, goal_only, tree_only, HasText}
 use Rattle.tiql_tree.proofs.GoodWords.{all_front, all_back}
 use Rattle.tiql_tree.proofs.Neat.{signed_only, signed_only-is, only-Sum, only-Product, only-Neg, only-Abs, only-Number, only-Text, only-Ref, only-place}
 use Rattle.tiql_tree.proofs.NeatCond.{only-Compare, only-Not, only-And, only-Or}
 use Rattle.tiql_tree.proofs.NeatTrees.{AllGood, in_parens_back, hypo_good, select_good, union_words, arms_good}
 use Rattle.tiql_tree.proofs.Parts.{parts_good}
-use Rattle.tiql_tree.proofs.Written.{Good}
 use Rattle.tiql_check.specs.Small.{all_true, small_step, small_expr_step, small_signed_step, small_expr, small_signed, small_form, small_cond, small_filter, small_value, small_select, small_bound, small_require, small_decl, small_goal, HasSmallNumbers}
 use Rattle.tiql_check.proofs.Inverse.{both_true}
 use Rattle.tiql_check.proofs.FitExprs.{small_expr-is, small_signed-is, small-Number, small-Sum, small-Product, small-Neg, small-Abs}

@@ -1,10 +1,10 @@
 -- a loop that checks one part after the other, and stops at the first broken rule
-use Rattle.std.proofs.Common.{◌≡◌, ◌≢◌, ℕ, ◌+◌, ◌<◌, ◌≤◌, List, [], ◌∷◌, length, get_or, map, drop, refl, sym, ◌∙◌, ap}
+use Rattle.std.proofs.Common.{◌≡◌, ◌≢◌, ℕ, ◌+◌, ◌<◌, ◌≤◌, List, length, get_or, map, drop, sym, ◌∙◌}
 use Rattle.std.specs.Prelude.{Result, Ok, Err}
 use Rattle.std.proofs.lemmas.List.{drop_more, drop_all}
 use Rattle.tiql_check.specs.declared.fault.SoundFault.{SoundFault}
 use Rattle.tiql_check.specs.declared.fault.SoundFault.TheVariants as fault
-use Rattle.tiql_check.specs.Turns.{◌>>=◌, in_turn}
+use Rattle.tiql_check.specs.Turns.{in_turn}
 
 -- the parts are seen through g
 module _ {S X Y : Type 0} (f : S → Y → Result S SoundFault) (g : X → Y) (xs : List X) where

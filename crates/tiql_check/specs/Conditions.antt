@@ -1,5 +1,5 @@
 -- conditions
-use Rattle.std.specs.Prelude.{Bool, true, false, not, if◌then◌else◌, List, [], ◌∷◌, ◌++◌, Option, Some, None, Result, Ok, Err}
+use Rattle.std.specs.Prelude.{Bool, not, if◌then◌else◌, List, [], ◌∷◌, ◌++◌, Option, Some, None, Result, Ok, Err}
 use Rattle.tiql_query.specs.declared.condition.Cmp.{Cmp}
 use Rattle.tiql_query.specs.declared.condition.Cmp.TheVariants as cmps
 use Rattle.tiql_query.specs.declared.condition.Cond.{Cond}

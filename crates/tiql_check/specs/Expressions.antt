@@ -1,5 +1,5 @@
 -- expressions: their columns, their types and their marks
-use Rattle.std.specs.Prelude.{ℕ, Bool, true, false, ◌||◌, ◌&&◌, if◌then◌else◌, List, [], ◌∷◌, ◌++◌, Result, Ok, Err}
+use Rattle.std.specs.Prelude.{Bool, true, false, ◌||◌, ◌&&◌, if◌then◌else◌, List, [], ◌∷◌, ◌++◌, Result, Ok, Err}
 use Rattle.base_kit.specs.declared.place.Place.{Place}
 use Rattle.tiql_query.specs.declared.expression.Signed.{Signed, roll-Signed}
 use Rattle.tiql_query.specs.declared.expression.Expr.{Expr}
@@ -13,7 +13,6 @@ use Rattle.tiql_tree.specs.declared.expression.TreeForm.TheOpen.{TreeForm-F}
 use Rattle.tiql_tree.specs.declared.expression.TreeForm.TheFolds.{fold-TreeForm}
 use Rattle.tiql_check.specs.declared.fault.SoundFault.{SoundFault}
 use Rattle.tiql_check.specs.declared.fault.SoundFault.TheVariants as fault
-use Rattle.tiql_check.specs.declared.scope.Kind.{Kind}
 use Rattle.tiql_check.specs.declared.expression.Typed.{Typed}
 use Rattle.tiql_check.specs.declared.expression.Terms.{Terms}
 use Rattle.tiql_check.specs.declared.expression.Factors.{Factors}

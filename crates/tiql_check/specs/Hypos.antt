@@ -1,10 +1,9 @@
 -- hypothetical tables
-use Rattle.std.specs.Prelude.{ℕ, ◌==◌, Bool, true, false, if◌then◌else◌, List, [], ◌∷◌, ◌++◌, Option, Some, None, slice_get, is_some, Result, Ok, Err}
+use Rattle.std.specs.Prelude.{ℕ, ◌==◌, Bool, true, false, if◌then◌else◌, List, [], ◌∷◌, ◌++◌, Option, Some, None, slice_get, Result, Ok, Err}
 use Rattle.std.specs.List.{list_any}
 use Rattle.base_kit.specs.declared.place.Place.{Place}
 use Rattle.tiql_query.specs.declared.relation.Source.{Source}
 use Rattle.tiql_query.specs.declared.relation.Source.TheVariants.{Table, Hypo, View}
-use Rattle.tiql_query.specs.declared.relation.Column.{Column}
 use Rattle.tiql_query.specs.declared.relation.QTable.{QTable}
 use Rattle.tiql_query.specs.declared.relation.QBound.{QBound}
 use Rattle.tiql_query.specs.declared.relation.QHypo.{QHypo}
@@ -17,7 +16,7 @@ use Rattle.tiql_check.specs.declared.fault.SoundFault.TheVariants as fault
 use Rattle.tiql_check.specs.declared.scope.Found.{Found}
 use Rattle.tiql_check.specs.declared.known.Known.{Known}
 use Rattle.tiql_check.specs.Turns.{◌>>=◌, in_turn}
-use Rattle.tiql_check.specs.Scopes.{Scope, Seen, column_named}
+use Rattle.tiql_check.specs.Scopes.{Scope, column_named}
 use Rattle.tiql_check.specs.Expressions.{number_in}
 use Rattle.tiql_check.specs.Conditions.{filter_in}
 use Rattle.tiql_check.specs.Known.{is_taken, relation_named}

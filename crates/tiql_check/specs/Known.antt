@@ -9,7 +9,6 @@ use Rattle.tiql_query.specs.declared.relation.QHypo.{QHypo}
 use Rattle.tiql_query.specs.declared.view.QView.{QView}
 use Rattle.tiql_query.specs.declared.aim.Aim.TheVariants.{Find}
 use Rattle.tiql_query.specs.declared.aim.Require.{Require}
-use Rattle.tiql_query.specs.declared.query.Query.{Query}
 use Rattle.tiql_query.specs.WellFormed.{columns_of}
 use Rattle.tiql_tree.specs.declared.tree.Spot.{Spot}
 use Rattle.tiql_check.specs.declared.fault.SoundFault.{SoundFault}

@@ -1,15 +1,13 @@
 -- selects
 use Rattle.std.specs.Prelude.{ℕ, ◌==◌, Bool, true, false, not, ◌&&◌, ◌||◌, if◌then◌else◌, List, [], ◌∷◌, ◌++◌, Option, Some, None, Result, Ok, Err}
 use Rattle.std.specs.List.{list_any}
-use Rattle.base_kit.specs.declared.place.Place.{Place}
 use Rattle.tiql_query.specs.declared.expression.At.{At}
 use Rattle.tiql_query.specs.declared.expression.Expr.{Expr}
-use Rattle.tiql_query.specs.declared.expression.Expr.TheOpen.{Expr-F, Signed-F}
+use Rattle.tiql_query.specs.declared.expression.Expr.TheOpen.{Expr-F}
 use Rattle.tiql_query.specs.declared.expression.Expr.TheFolds.{fold-Expr}
 use Rattle.tiql_query.specs.declared.condition.Cond.{Cond}
 use Rattle.tiql_query.specs.declared.view.Item.{Item}
 use Rattle.tiql_query.specs.declared.view.Item.TheVariants as items
-use Rattle.tiql_query.specs.declared.view.Select.{Select}
 use Rattle.tiql_tree.specs.declared.expression.TreeRef.{TreeRef}
 use Rattle.tiql_tree.specs.declared.tree.TreeItem.{TreeItem}
 use Rattle.tiql_tree.specs.declared.tree.TreeSelect.{TreeSelect}
@@ -19,7 +17,6 @@ use Rattle.tiql_tree.specs.declared.tree.TreeValue.TheVariants as values
 use Rattle.tiql_check.specs.declared.fault.SoundFault.{SoundFault}
 use Rattle.tiql_check.specs.declared.fault.SoundFault.TheVariants as fault
 use Rattle.tiql_check.specs.declared.known.Known.{Known}
-use Rattle.tiql_check.specs.declared.scope.Kind.{Kind}
 use Rattle.tiql_check.specs.declared.item.TypedItem.{TypedItem}
 use Rattle.tiql_check.specs.declared.item.ItemColumn.{ItemColumn}
 use Rattle.tiql_check.specs.declared.item.Items.{Items}
@@ -28,7 +25,7 @@ use Rattle.tiql_check.specs.declared.select.Arm.{Arm}
 use Rattle.tiql_check.specs.declared.select.Lent.{Lent}
 use Rattle.tiql_query.specs.declared.relation.Source.{Source}
 use Rattle.tiql_check.specs.Turns.{◌>>=◌, in_turn}
-use Rattle.tiql_check.specs.Scopes.{Scope, Seen, scope_of, number, same, meant}
+use Rattle.tiql_check.specs.Scopes.{Scope, scope_of, number, same, meant}
 use Rattle.tiql_check.specs.Expressions.{typed_in, number_in}
 use Rattle.tiql_check.specs.Conditions.{filter_in}
 use Rattle.tiql_check.specs.Known.{declared, columns_in}

@@ -1,5 +1,5 @@
 -- trees of which every number is one that a text may have
-use Rattle.std.specs.Prelude.{ℕ, ◌^◌, nat_le, unsigned_abs, Bool, true, ◌&&◌, IsTrue, List, map, Option, Some, None}
+use Rattle.std.specs.Prelude.{◌^◌, nat_le, unsigned_abs, Bool, true, ◌&&◌, IsTrue, List, Option, Some, None}
 use Rattle.std.specs.List.{list_all}
 use Rattle.tiql_tree.specs.declared.expression.TreeExpr.{TreeExpr, TreeExpr-F, fold-TreeExpr}
 use Rattle.tiql_tree.specs.declared.expression.TreeSigned.{TreeSigned, TreeSigned-F, fold-TreeSigned}
@@ -13,9 +13,7 @@ use Rattle.tiql_tree.specs.declared.tree.Tree.{Tree}
 use Rattle.tiql_tree.specs.declared.tree.Decl.{Decl}
 use Rattle.tiql_tree.specs.declared.tree.Decl.TheVariants as decls
 use Rattle.tiql_tree.specs.declared.tree.TreeBound.{TreeBound}
-use Rattle.tiql_tree.specs.declared.tree.TreeHypo.{TreeHypo}
 use Rattle.tiql_tree.specs.declared.tree.TreeSelect.{TreeSelect}
-use Rattle.tiql_tree.specs.declared.tree.TreeItem.{TreeItem}
 use Rattle.tiql_tree.specs.declared.tree.TreeValue.{TreeValue}
 use Rattle.tiql_tree.specs.declared.tree.TreeValue.TheVariants as values
 use Rattle.tiql_tree.specs.declared.tree.TreeRequire.{TreeRequire}

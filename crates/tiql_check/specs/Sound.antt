@@ -1,5 +1,5 @@
 -- which trees are sound and of which query, and which rule another tree breaks first
-use Rattle.std.specs.Prelude.{◌≡◌, List, [], ◌∷◌, Some, Result, Ok, Err}
+use Rattle.std.specs.Prelude.{◌≡◌, [], ◌∷◌, Some, Result, Ok, Err}
 use Rattle.tiql_query.specs.declared.aim.Require.{Require}
 use Rattle.tiql_query.specs.declared.aim.Require.TheVariants as needs
 use Rattle.tiql_query.specs.declared.aim.Aim.{Aim}
@@ -21,7 +21,7 @@ use Rattle.tiql_tree.specs.declared.tree.TreeGoal.TheVariants as goals
 use Rattle.tiql_check.specs.declared.fault.SoundFault.{SoundFault}
 use Rattle.tiql_check.specs.declared.known.Known.{Known}
 use Rattle.tiql_check.specs.Turns.{◌>>=◌, in_turn}
-use Rattle.tiql_check.specs.Scopes.{Scope, Seen}
+use Rattle.tiql_check.specs.Scopes.{Scope}
 use Rattle.tiql_check.specs.Expressions.{number_in}
 use Rattle.tiql_check.specs.Conditions.{cond_in}
 use Rattle.tiql_check.specs.Known.{nothing, declared, columns_in, with_table, with_hypo, with_view, with_require}

@@ -1,5 +1,5 @@
 -- views
-use Rattle.std.specs.Prelude.{◌==◌, Bool, true, false, not, ◌||◌, if◌then◌else◌, List, [], ◌∷◌, ◌++◌, length, map, Option, Some, None, slice_get, Result, Ok, Err}
+use Rattle.std.specs.Prelude.{◌==◌, Bool, not, ◌||◌, if◌then◌else◌, List, [], ◌∷◌, ◌++◌, length, map, Option, Some, None, slice_get, Result, Ok, Err}
 use Rattle.base_kit.specs.declared.place.Place.{Place}
 use Rattle.tiql_query.specs.declared.relation.Column.{Column}
 use Rattle.tiql_query.specs.declared.view.QView.{QView}

@@ -1,6 +1,6 @@
 -- the kind of an expression, and whether a condition fits, by their variants
-use Rattle.std.proofs.Common.{◌≡◌, ℕ, ℤ, ◌^◌, Bool, true, false, ◌||◌, ◌&&◌, not, List, [], ◌∷◌, ◌++◌, map, refl, sym, ◌∙◌, ap, unsigned_abs, if◌then◌else◌, Option, Some, None}
-use Rattle.std.specs.Prelude.{nat_le, IsTrue}
+use Rattle.std.proofs.Common.{◌≡◌, ℕ, ℤ, ◌^◌, Bool, true, false, ◌||◌, ◌&&◌, List, [], ◌∷◌, ◌++◌, map, refl, sym, ◌∙◌, ap, unsigned_abs, if◌then◌else◌, Option, Some, None}
+use Rattle.std.specs.Prelude.{nat_le}
 use Rattle.std.specs.List.{list_all}
 use denote.Hole.Carrier.{roll}
 use Rattle.tiql_query.specs.declared.expression.At.{At}
@@ -121,9 +121,11 @@ multiplied-push (Some first ∷ ks) others part is plain one = by_rest (λ rest 
     by_tests rest true t both b h = absurd (let e : None ≡ Some others = sym (rw t refl) ∙ h in cc)
     by_tests rest false t true b h = absurd (let e : None ≡ Some others = sym (rw (t, b) refl) ∙ h in cc)
     by_tests rest false t false b h = (t, b, same_unknown {one = number (first.unknown || rest.unknown)} {other = others} (sym (rw (t, b) refl) ∙ h))
+
     joined : (rest : Kind) → multiplied (ks ++ Some part ∷ []) ≡ Some (number (rest.unknown || part.unknown)) → first.text ≡ false → (first.unknown && (rest.unknown || part.unknown)) ≡ false → first.unknown || rest.unknown ≡ others.unknown
         → with_factor first (multiplied (ks ++ Some part ∷ [])) ≡ Some (number (others.unknown || part.unknown))
     joined rest more t b u = rw (more, t, b) (ap (λ b. Some (number b)) (or_assoc first.unknown rest.unknown part.unknown) ∙ ap (λ (o : Bool). Some (number (o || part.unknown))) u)
+
     by_rest : ((rest : Kind) → multiplied ks ≡ Some rest → (rest.unknown && part.unknown) ≡ false → multiplied (ks ++ Some part ∷ []) ≡ Some (number (rest.unknown || part.unknown)))
         → (rest : Option Kind) → multiplied ks ≡ rest → with_factor first rest ≡ Some others → with_factor first (multiplied (ks ++ Some part ∷ [])) ≡ Some (number (others.unknown || part.unknown))
     by_rest more None e h = absurd (let e : None ≡ Some others = h in cc)

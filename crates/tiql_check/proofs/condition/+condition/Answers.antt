@@ -1,4 +1,4 @@
-use Rattle.std.proofs.Common.{map, sym, ◌∙◌, ap, arith, rules}
+use Rattle.std.proofs.Common.{◌∙◌, arith, rules}
 use Rattle.tiql_check.specs.Scopes.{scope_of}
 use Rattle.tiql_check.specs.Conditions.{with_part, cond_in}
 use Rattle.tiql_check.proofs.Turns.{turn_map-step, turn_map-err, turn_map-end}

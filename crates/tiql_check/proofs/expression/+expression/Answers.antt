@@ -1,4 +1,4 @@
-use Rattle.std.proofs.Common.{map, sym, ◌∙◌, ap, arith, rules}
+use Rattle.std.proofs.Common.{◌∙◌, arith, rules}
 use Rattle.std.proofs.lemmas.Int.{to_z-of_z}
 use Rattle.tiql_check.specs.Scopes.{scope_of}
 use Rattle.tiql_check.specs.Expressions.{with_term, with_factor, signed_in, part_in}

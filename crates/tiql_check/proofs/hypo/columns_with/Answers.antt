@@ -1,4 +1,4 @@
-use Rattle.std.proofs.Common.{arith, rules, sym, ◌∙◌}
+use Rattle.std.proofs.Common.{arith, rules}
 use Rattle.tiql_check.proofs.Lists.{set_step, set_end}
 use Rattle.tiql_check.proofs.hypo.columns_with.Goals as goal
 

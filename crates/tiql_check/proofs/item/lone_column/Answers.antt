@@ -1,5 +1,4 @@
 use Rattle.tiql_check.proofs.Items.{lone-Int, lone-Text, lone-Column, lone-Sum, lone-Product, lone-Neg, lone-Abs}
-use Rattle.std.proofs.lemmas.Int.{to_z-of_z}
 use Rattle.tiql_check.proofs.item.lone_column.Goals as goal
 
 pub returns-in-Int : goal.returns-in-Int

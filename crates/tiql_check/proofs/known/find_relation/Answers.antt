@@ -1,4 +1,4 @@
-use Rattle.std.proofs.Common.{arith, sym, ◌∙◌, rules}
+use Rattle.std.proofs.Common.{arith, sym, ◌∙◌}
 use Rattle.tiql_check.proofs.Lists.{relation_found, relation_passed, relation_missed}
 use Rattle.tiql_check.proofs.known.find_relation.Goals as goal
 

@@ -1,5 +1,4 @@
-use Rattle.std.proofs.Common.{arith, sym, ◌∙◌, rules, subst}
-use Rattle.tiql_check.specs.Turns.{Gives}
+use Rattle.std.proofs.Common.{arith, sym, ◌∙◌}
 use Rattle.tiql_check.proofs.Names.{gives-is, none_here, first_here, second_here, at_end}
 use Rattle.tiql_check.proofs.scope.resolve.Goals as goal
 

@@ -1,4 +1,4 @@
-use Rattle.std.proofs.Common.{rules, ap, ◌∙◌, sym, ◌++◌, ◌∷◌, [], Some}
+use Rattle.std.proofs.Common.{rules, ap, ◌∙◌, ◌++◌, ◌∷◌, [], Some}
 use Rattle.tiql_check.specs.Scopes.{scope_of}
 use Rattle.tiql_check.proofs.Names.{scope_push, source_added}
 use Rattle.tiql_check.proofs.select.add_source.Goals as goal

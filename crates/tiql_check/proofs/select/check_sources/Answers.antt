@@ -1,5 +1,5 @@
 use Rattle.std.proofs.Common.{arith, rules}
-use Rattle.tiql_check.specs.Selects.{with_source, taken}
+use Rattle.tiql_check.specs.Selects.{with_source}
 use Rattle.tiql_check.proofs.Turns.{turn-step, turn-err, turn-end}
 use Rattle.tiql_check.proofs.select.check_sources.Goals as goal
 
