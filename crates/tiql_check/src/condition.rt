@@ -1,5 +1,5 @@
 //! Conditions.
-ghost use Rattle.std.specs.Prelude.{◌≡◌, map, [], option_map};
+ghost use Rattle.std.specs.Prelude.{◌≡◌, map, []};
 ghost use Rattle.tiql_check.specs.Conditions as spec;
 ghost use Rattle.tiql_check.specs.Scopes.{scope_of};
 ghost use Rattle.tiql_check.specs.Turns.{Gives, in_turn};

@@ -14,13 +14,16 @@ use tiql_tree::{TreeExpr, TreeForm, TreeRef, TreeSigned};
 /// A checked expression, with what it makes.
 #[derive(Debug, Drop)]
 pub struct Typed {
+    /// The expression.
     pub expr: Expr,
+    /// What it makes.
     pub kind: Kind,
 }
 
 /// The first parts of a sum.
 #[derive(Debug, Drop)]
 pub struct Terms {
+    /// These parts.
     pub parts: List<Signed>,
     /// Whether one of them is unknown.
     pub unknown: bool,
@@ -29,6 +32,7 @@ pub struct Terms {
 /// The first factors of a product.
 #[derive(Debug, Drop)]
 pub struct Factors {
+    /// These factors.
     pub parts: List<Expr>,
     /// Whether one of them is unknown.
     pub unknown: bool,

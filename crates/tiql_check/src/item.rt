@@ -1,5 +1,5 @@
 //! Items of a select.
-ghost use Rattle.std.specs.Prelude.{◌≡◌, []};
+ghost use Rattle.std.specs.Prelude.{◌≡◌};
 ghost use Rattle.tiql_check.specs.Scopes.{scope_of};
 ghost use Rattle.tiql_check.specs.Selects as spec;
 ghost use Rattle.tiql_check.specs.Turns.{Gives, Leaves, in_turn};
@@ -15,23 +15,29 @@ use tiql_tree::{TreeItem, TreeValue};
 /// An item, with what stands in its column.
 #[derive(Debug, Drop)]
 pub struct TypedItem {
+    /// The item.
     pub item: Item,
+    /// What stands in its column.
     pub kind: Kind,
 }
 
 /// The column that an item makes.
 #[derive(Debug, Drop)]
 pub struct ItemColumn {
+    /// The name of the item.
     pub name: Name,
     /// The place of the item.
     pub place: Place,
+    /// What stands in the column.
     pub kind: Kind,
 }
 
 /// The first items of a select.
 #[derive(Debug, Drop)]
 pub struct Items {
+    /// These items.
     pub items: List<Item>,
+    /// The columns that they make.
     pub columns: List<ItemColumn>,
 }
 

@@ -1,5 +1,5 @@
 //! The declarations that were checked.
-ghost use Rattle.std.specs.Prelude.{◌≡◌, OnOk, length};
+ghost use Rattle.std.specs.Prelude.{◌≡◌, OnOk};
 ghost use Rattle.tiql_check.specs.Known as spec;
 
 use crate::SoundFault;
@@ -12,7 +12,9 @@ use tiql_tree::Spot;
 /// A relation by its name.
 #[derive(Debug, Drop)]
 pub struct Relation {
+    /// Its name.
     pub name: Name,
+    /// Its kind, and its number among the relations of that kind.
     pub source: Source,
 }
 
@@ -41,7 +43,7 @@ pub fn nothing(alloc: Global) -> Known
     }
 }
 
-// The relation of this name, if there is one.
+/// The relation of this name, if there is one.
 #[tactic(auto, unfolding(crate::specs::Known::relation_named))]
 pub fn find_relation(relations: &[Relation], name: &Name) -> Option<Source>
     ensures { result ≡ spec.relation_named name.now relations.now }

@@ -1,5 +1,5 @@
 //! The check of a whole query.
-ghost use Rattle.std.specs.Prelude.{◌≡◌, ◌≢◌, IfOk, IfErr};
+ghost use Rattle.std.specs.Prelude.{◌≢◌, IfOk, IfErr};
 ghost use Rattle.tiql_query.specs.WellFormed.{IsWellFormed};
 ghost use Rattle.tiql_tree.specs.Unplaced.{HasText};
 ghost use Rattle.tiql_check.specs.Sound as spec;

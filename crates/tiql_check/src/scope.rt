@@ -1,5 +1,5 @@
 //! What names of columns mean.
-ghost use Rattle.std.specs.Prelude.{◌≡◌, IfOk, length, ◌+◌};
+ghost use Rattle.std.specs.Prelude.{◌≡◌, IfOk};
 ghost use Rattle.std.specs.Option.{option_map};
 ghost use Rattle.tiql_check.specs.Scopes as spec;
 ghost use Rattle.tiql_check.specs.Turns.{Gives};
@@ -24,13 +24,16 @@ pub struct Kind {
 pub struct Found {
     /// Its number in the relation.
     pub number: u32,
+    /// What stands in it.
     pub kind: Kind,
 }
 
 /// The column that a name means.
 #[derive(Clone, Copy, Debug, PartialEq, Eq)]
 pub struct Meant {
+    /// Where it is.
     pub at: At,
+    /// What stands in it.
     pub kind: Kind,
 }
 
@@ -39,6 +42,7 @@ pub struct Meant {
 pub struct InScope<'a> {
     /// The name that may stand before its columns. None may within a hypothetical table.
     pub alias: Option<&'a Name>,
+    /// Its columns.
     pub columns: &'a [Column],
 }
 

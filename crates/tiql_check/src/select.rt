@@ -18,14 +18,18 @@ use tiql_tree::{TreeItem, TreeRef, TreeSelect, TreeSource, TreeValue};
 /// A select, with the columns that it makes.
 #[derive(Debug, Drop)]
 pub struct Arm {
+    /// The select.
     pub select: Select,
+    /// The columns that its items make.
     pub columns: List<ItemColumn>,
 }
 
 /// The first relations behind FROM, with what they bring into scope.
 #[derive(Drop)]
 pub struct Lent<'a> {
+    /// These relations.
     pub sources: List<Source>,
+    /// Their aliases and columns.
     pub scope: Vec<InScope<'a>>,
 }
 
@@ -38,16 +42,17 @@ fn is_alias(name: &Name, alias: Option<&Name>) -> bool
     }
 }
 
-fn any_has_alias(name: &Name, scope: &[InScope<'_>]) -> bool
+fn is_alias_of_any(name: &Name, scope: &[InScope<'_>]) -> bool
     ensures { result ≡ list_any (λ relation. spec.is_alias name.now (option_map (λ alias. alias.now) relation.alias)) scope.now }
 {
     scope.iter().any(|relation| is_alias(name, relation.alias))
 }
 
+// The same, said of what stands behind the references.
 fn has_alias(name: &Name, scope: &[InScope<'_>]) -> bool
     ensures { result ≡ spec.has_alias name.now (scope_of scope.now) }
 {
-    any_has_alias(name, scope)
+    is_alias_of_any(name, scope)
 }
 
 // No two aliases of a select are one name.

@@ -16,7 +16,9 @@ use tiql_tree::{TreeSelect, TreeView};
 /// The first selects of a view, with the columns of all of them.
 #[derive(Debug, Drop)]
 pub struct Arms {
+    /// These selects.
     pub arms: List<Select>,
+    /// The columns: named by the first select, and unknown where one of the selects has them so.
     pub columns: List<Column>,
 }
 
