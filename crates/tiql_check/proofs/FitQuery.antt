@@ -164,7 +164,7 @@ module _ (q r : Query) (ext : Extends q r) (n : ℕ) (le : n ≤ length q.views)
 
 module _ (q r : Query) (ext : Extends q r) where
   hypo_kept : (hypo : QHypo) → IsHypoFit q hypo → IsHypoFit r hypo
-  hypo_kept hypo fit = record { table = fit.table; there = ext.tables hypo.table fit.table fit.there; columns = fit.columns; bounds = fit.bounds; filter = fit.filter }
+  hypo_kept hypo fit = record { table = fit.table; there = ext.tables hypo.table fit.table fit.there; columns = fit.columns; bounds = fit.bounds; filter = fit.filter; once = fit.once; keys = fit.keys; dropped = fit.dropped }
 
   over_kept : (source : Source) (holds : query.Scope → Bool) → IsOver q source holds → IsOver r source holds
   over_kept source holds fit = (fit.0, columns_kept q r ext source fit.0 fit.1, fit.2)

@@ -1,36 +1,33 @@
 -- checked tables and hypothetical tables fit
-use Rattle.std.proofs.Common.{◌≡◌, ℕ, ◌<◌, true, false, ◌&&◌, not, List, [], ◌∷◌, ◌++◌, length, refl, sym, ◌∙◌, ap, subst, if◌then◌else◌}
+use Rattle.std.proofs.Common.{◌≡◌, ℕ, ◌<◌, Bool, true, false, ◌&&◌, List, [], ◌∷◌, ◌++◌, length, refl, sym, ◌∙◌, ap, subst, arith}
 use Rattle.std.specs.Prelude.{Option, Some, None, slice_get, Ok, Err, All}
 use Rattle.std.specs.List.{list_all}
+use Rattle.std.proofs.lemmas.Bool.{false≢true}
 use Rattle.std.proofs.lemmas.List.Elements.{All-nil, All-push}
 use Rattle.std.proofs.lemmas.Option.{slice_get_within}
+use Rattle.base_kit.specs.declared.place.Place.{Place}
 use Rattle.tiql_query.specs.declared.relation.Column.{Column}
 use Rattle.tiql_query.specs.declared.relation.QTable.{QTable}
-use Rattle.tiql_query.specs.declared.relation.QBound.{QBound}
 use Rattle.tiql_query.specs.declared.relation.QHypo.{QHypo}
-use Rattle.tiql_query.specs.Kinds.{kind_at, is_number}
-use Rattle.tiql_query.specs.WellFormed.{IsTableFit, IsBoundFit, IsHypoFit, with_set}
+use Rattle.tiql_query.specs.WellFormed.{IsTableFit, IsHypoFit, with_set}
 use Rattle.tiql_tree.specs.declared.tree.Spot.{Spot}
 use Rattle.tiql_tree.specs.declared.tree.TreeColumn.{TreeColumn}
 use Rattle.tiql_tree.specs.declared.tree.TreeTable.{TreeTable}
-use Rattle.tiql_tree.specs.declared.tree.TreeBound.{TreeBound}
 use Rattle.tiql_tree.specs.declared.tree.TreeHypo.{TreeHypo}
 use Rattle.tiql_check.specs.declared.fault.SoundFault.TheVariants as fault
-use Rattle.tiql_check.specs.declared.scope.Kind.{Kind}
 use Rattle.tiql_check.specs.declared.scope.Found.{Found}
 use Rattle.tiql_check.specs.declared.known.Known.{Known}
 use Rattle.tiql_check.specs.Turns.{◌>>=◌, in_turn}
-use Rattle.tiql_check.specs.Scopes.{Scope, column_named}
-use Rattle.tiql_check.specs.Expressions.{number_in}
+use Rattle.tiql_check.specs.Scopes.{column_named}
 use Rattle.tiql_check.specs.Conditions.{filter_in}
 use Rattle.tiql_check.specs.Known.{is_taken}
 use Rattle.tiql_check.specs.Tables.{has_column, with_column, is_among, key_column, with_key_column, checked_table}
-use Rattle.tiql_check.specs.Hypos.{base_number, bare_scope, is_set, set_column, with_bound, droppable, over_table, table_at, checked_hypo}
-use Rattle.tiql_check.specs.Small.{small_expr, small_bound, small_filter}
+use Rattle.tiql_check.specs.Hypos.{base_number, bare_scope, with_bound, droppable, over_table, table_at, checked_hypo}
+use Rattle.tiql_check.specs.Small.{small_bound, small_filter}
 use Rattle.tiql_check.proofs.Inverse.{came_of, kept, same_Ok, both, through}
 use Rattle.tiql_check.proofs.Fit.{column_there}
-use Rattle.tiql_check.proofs.FitExprs.{number_fit}
 use Rattle.tiql_check.proofs.FitConds.{filter_fit}
+use Rattle.tiql_check.proofs.FitSet.{bounds_fit}
 
 -- nothing is asked of the parts
 pub any_part : {A : Type 0} (xs : List A) → list_all (λ x. true) xs ≡ true
@@ -71,34 +68,14 @@ table_fit known tree table e =
       fixed = through with_column AreFixed (λ column. true) column_step tree.columns [] columns.0 (any_part tree.columns) columns.1 (All-nil (λ (column : Column). column.unknown ≡ false));
     })
 
--- the number of a set column is that of a whole number
-set_there : (table : QTable) (before : List QBound) (name : Spot) (n : ℕ) → set_column table before name (column_named name.name 0 table.columns) ≡ Ok n → is_number (kind_at (table.columns ∷ []) (record { source = 0; column = n })) ≡ true
-unfolding kind_at
-set_there table before name n e = by_found (column_named name.name 0 table.columns) refl e
+-- rows are left out only of a table with a key
+with_key : (table : QTable) (place : Option Place) (dropped : Bool) → droppable table place ≡ Ok dropped → dropped ≡ true → 0 < length table.key
+with_key table None dropped e is = absurd (false≢true (same_Ok false dropped e ∙ is))
+with_key table (Some place) dropped e is = by_key table.key refl e
   where
-    by_found : (o : Option Found) → column_named name.name 0 table.columns ≡ o → set_column table before name o ≡ Ok n → is_number (kind_at (table.columns ∷ []) (record { source = 0; column = n })) ≡ true
-    by_found None is h = absurd (let k : Err (fault.UnknownName name.place) ≡ Ok n = h in cc)
-    by_found (Some found) is h =
-        let new = kept (is_set found.number before) (fault.SameName name.place) (if is_among found.number table.key then Err (fault.KeyUnknown name.place) else (if found.kind.text then Err (fault.WrongType name.place) else Ok found.number)) n h in
-        let free = kept (is_among found.number table.key) (fault.KeyUnknown name.place) (if found.kind.text then Err (fault.WrongType name.place) else Ok found.number) n new.1 in
-        let plain = kept found.kind.text (fault.WrongType name.place) (Ok found.number) n free.1 in
-        let there = column_there name.name 0 [] table.columns found refl is in
-        subst (λ k. is_number (kind_at (table.columns ∷ []) (record { source = 0; column = k })) ≡ true) (same_Ok found.number n plain.1)
-        (rw there.1 (ap (λ (k : Kind). not k.text) there.2 ∙ rw plain.0 refl))
-
-bound_step : (table : QTable) (before next : List QBound) (bound : TreeBound) → small_bound bound ≡ true → with_bound (bare_scope table) table before bound ≡ Ok next → All (IsBoundFit table.columns) before → All (IsBoundFit table.columns) next
-bound_step table before next bound small e p =
-    let tests = both (small_expr bound.lo) (small_expr bound.hi) small in
-    let scope : Scope = bare_scope table in
-    let number = came_of (set_column table before bound.name (column_named bound.name.name 0 table.columns)) (λ number. number_in scope bound.lo >>= (λ lo. number_in scope bound.hi >>= (λ hi. Ok (before ++ record { column = number; lo = lo.expr; hi = hi.expr } ∷ [])))) next e in
-    let lo = came_of (number_in scope bound.lo) (λ lo. number_in scope bound.hi >>= (λ hi. Ok (before ++ record { column = number.0; lo = lo.expr; hi = hi.expr } ∷ []))) next number.2 in
-    let hi = came_of (number_in scope bound.hi) (λ hi. Ok (before ++ record { column = number.0; lo = (lo.0).expr; hi = hi.expr } ∷ [])) next lo.2 in
-    let made : QBound = record { column = number.0; lo = (lo.0).expr; hi = (hi.0).expr } in
-    subst (All (IsBoundFit table.columns)) (same_Ok (before ++ made ∷ []) next hi.2) (All-push (IsBoundFit table.columns) before made p (record {
-      column = set_there table before bound.name number.0 number.1;
-      lo = ap is_number (number_fit scope bound.lo lo.0 lo.1 tests.0);
-      hi = ap is_number (number_fit scope bound.hi hi.0 hi.1 tests.1);
-    }))
+    by_key : (key : List ℕ) → table.key ≡ key → droppable (record table { key = key }) (Some place) ≡ Ok dropped → 0 < length table.key
+    by_key [] here h = absurd (let k : Err (fault.KeyMissing place) ≡ Ok dropped = h in cc)
+    by_key (number ∷ numbers) here h = rw here (omega arith)
 
 pub hypo_fit : (known : Known) (tree : TreeHypo) (hypo : QHypo) → checked_hypo known tree ≡ Ok hypo → (list_all small_bound tree.set && small_filter tree.filter) ≡ true → IsHypoFit known.query hypo
 unfolding checked_hypo over_table
@@ -122,10 +99,14 @@ hypo_fit known tree hypo e small =
         let filter = came_of (filter_in (bare_scope table) tree.filter) (λ filter. droppable table tree.dropped >>= (λ dropped. Ok (record { name = tree.name.name; table = number; columns = with_set set.0 0 table.columns; set = set.0; filter = filter; droppable = dropped }))) hypo set.2 in
         let dropped = came_of (droppable table tree.dropped) (λ dropped. Ok (record { name = tree.name.name; table = number; columns = with_set set.0 0 table.columns; set = set.0; filter = filter.0; droppable = dropped })) hypo filter.2 in
         let made : QHypo = record { name = tree.name.name; table = number; columns = with_set set.0 0 table.columns; set = set.0; filter = filter.0; droppable = dropped.0 } in
+        let bounds = bounds_fit table tree.set set.0 small_set set.1 in
         subst (IsHypoFit known.query) {x = made} (same_Ok made hypo dropped.2) (record {
           table = table;
           there = there;
           columns = refl;
-          bounds = through (with_bound (bare_scope table) table) (All (IsBoundFit table.columns)) small_bound (bound_step table) tree.set [] set.0 small_set set.1 (All-nil (IsBoundFit table.columns));
+          bounds = bounds.fit;
           filter = filter_fit (bare_scope table) tree.filter filter.0 filter.1 small_where;
+          once = bounds.once;
+          keys = bounds.keys;
+          dropped = with_key table tree.dropped dropped.0 dropped.1;
         })

@@ -1,5 +1,5 @@
 -- what a check that comes to something tells of its parts
-use Rattle.std.proofs.Common.{◌≡◌, Bool, true, false, ◌&&◌, List, [], ◌∷◌, map, refl, subst, if◌then◌else◌}
+use Rattle.std.proofs.Common.{◌≡◌, Bool, true, false, ◌&&◌, ◌||◌, List, [], ◌∷◌, map, refl, sym, subst, if◌then◌else◌}
 use Rattle.std.specs.Prelude.{Result, Ok, Err}
 use Rattle.std.proofs.lemmas.Bool.{false≢true}
 use Rattle.std.specs.List.{list_all}
@@ -29,6 +29,10 @@ both false false h = absurd (false≢true h)
 pub both_true : (a b : Bool) → a ≡ true → b ≡ true → (a && b) ≡ true
 both_true true b one other = other
 both_true false b one other = absurd (false≢true one)
+
+pub neither : (a b : Bool) → (a || b) ≡ false → (a ≡ false) × (b ≡ false)
+neither true b h = absurd (false≢true (sym h))
+neither false b h = (refl, h)
 
 -- what holds before the first part, and of each next one, holds behind the last
 pub through : {S X : Type 0} (f : S → X → Result S SoundFault) (P : S → Type 0) (Q : X → Bool) → ((s next : S) (x : X) → Q x ≡ true → f s x ≡ Ok next → P s → P next)

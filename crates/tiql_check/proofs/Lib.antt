@@ -7,6 +7,7 @@ pub mod Inverse
 pub mod Fit
 pub mod FitExprs
 pub mod FitConds
+pub mod FitSet
 pub mod FitTables
 pub mod FitSelects
 pub mod FitViews

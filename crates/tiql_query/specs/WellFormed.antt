@@ -1,5 +1,5 @@
 -- queries whose numbers name what is there, and whose types and marks fit
-use Rattle.std.specs.Prelude.{◌≡◌, ◌<◌, ℕ, ◌+◌, ◌==◌, Bool, true, false, IsTrue, List, [], ◌∷◌, length, map, Option, Some, None, option_map, unwrap_or, slice_get, All, if◌then◌else◌}
+use Rattle.std.specs.Prelude.{◌≡◌, ◌<◌, ℕ, ◌+◌, ◌==◌, Bool, true, false, not, ◌&&◌, IsTrue, List, [], ◌∷◌, length, map, Option, Some, None, option_map, unwrap_or, slice_get, All, if◌then◌else◌}
 use Rattle.std.specs.List.{list_any}
 use Rattle.tiql_query.specs.declared.relation.Source.{Source}
 use Rattle.tiql_query.specs.declared.relation.Source.TheVariants as sources
@@ -44,12 +44,21 @@ pub record IsBoundFit (columns : List Column) (bound : QBound) : Type 0 where
   pub lo : IsTrue (is_number (kind (columns ∷ []) bound.lo))
   pub hi : IsTrue (is_number (kind (columns ∷ []) bound.hi))
 
+-- no column is set twice
+unfoldable pub are_once : List QBound → Bool
+are_once [] = true
+are_once (bound ∷ bounds) = not (list_any (λ other. other.column == bound.column) bounds) && are_once bounds
+
+-- over a declared table, whose columns it has. No column of the key is set, and rows may be left out only of a table with a key
 pub record IsHypoFit (query : Query) (hypo : QHypo) : Type 0 where
   pub table : QTable
   pub there : slice_get query.tables hypo.table ≡ Some table
   pub columns : hypo.columns ≡ with_set hypo.set 0 table.columns
   pub bounds : All (IsBoundFit table.columns) hypo.set
   pub filter : IsTrue (is_fit_filter (table.columns ∷ []) hypo.filter)
+  pub once : IsTrue (are_once hypo.set)
+  pub keys : All (λ bound. list_any (λ column. column == bound.column) table.key ≡ false) hypo.set
+  pub dropped : hypo.droppable ≡ true → 0 < length table.key
 
 -- a source of the view with this number: of the views only an earlier one
 abbrev pub IsEarlier : Query → ℕ → Source → Type 0
@@ -102,7 +111,8 @@ IsAimFit query aims.Find = Unit
 IsAimFit query (aims.Sum maximize source part) = IsOver query source (λ scope. is_number (kind scope part))
 
 -- the query's numbers name what is there, the sources of a view stand before it, numbers are at most 10^15 in size, types fit,
--- products have one unknown factor at most, columns of GROUP BY and of DISTINCT selects are fixed, and what is marked unknown is so
+-- products have one unknown factor at most, columns of GROUP BY and of DISTINCT selects are fixed, what is marked unknown is so,
+-- and of a hypothetical table each column is set once at most and none of the key is, and without a key no row is left out
 pub record IsWellFormed (query : Query) : Type 0 where
   pub tables : All IsTableFit query.tables
   pub hypos : All (IsHypoFit query) query.hypos
