@@ -8,6 +8,7 @@ pub mod Numerals
 pub mod Outcomes
 mod Passing
 pub mod Plain
+pub mod QueryTables
 pub mod Readings
 mod Refusals
 pub mod Rows

@@ -1,8 +1,10 @@
 pub mod Chains
 pub mod Hashes
+pub mod KeyIndexes
 pub mod Keys
 pub mod Numbers
 pub mod Passes
+pub mod QueryTables
 pub mod Records
 pub mod Rows
 pub mod Tables

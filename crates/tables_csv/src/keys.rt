@@ -13,7 +13,7 @@ use std::cmp::Ordering;
 // The most chains: more would not shorten them, since a table has at most 200,000 rows.
 const MOST_CHAINS: usize = 262_144;
 
-/// The chains of the rows of a table. They take 8 bytes for a row, and at most a byte for each byte of the file.
+/// The chains of the rows of a table. They take about 8 bytes for a row, and 4 for a chain.
 #[derive(Drop)]
 pub(crate) struct Keys {
     heads: Vec<u32>,
@@ -22,20 +22,57 @@ pub(crate) struct Keys {
 }
 
 impl Keys {
-    /// The chains of no rows yet, for a table of so many bytes. Without a key there are none.
-    pub(crate) fn new(alloc: Global, key: &[u32], bytes: usize) -> Result<Keys, Memory>
+    /// The chains of no rows yet, for a table of about so many rows. Without a key there are none.
+    pub(crate) fn new(alloc: Global, key: &[u32], rows: usize) -> Result<Keys, Memory>
         ensures { IfOk result (λ keys. AreKeysOf key.now [] keys) }
     {
         let chains = if key.is_empty() {
             0
         } else {
-            (bytes / 4 + 1).min(MOST_CHAINS)
+            rows.min(MOST_CHAINS - 1) + 1
         };
         Ok(Keys {
             heads: vec![in alloc; 0u32; chains]?,
             hashes: Vec::new(alloc),
             links: Vec::new(alloc),
         })
+    }
+
+    /// The chains of these rows.
+    pub(crate) fn of_rows(alloc: Global, key: &[u32], rows: &[Row]) -> Result<Keys, Memory>
+        requires { length rows.now < 2 ^ 31 }
+        ensures { IfOk result (λ keys. AreKeysOf key.now rows.now keys) }
+    {
+        let mut keys = Keys::new(alloc, key, rows.len())?;
+        if key.is_empty() {
+            return Ok(keys);
+        }
+        for row in rows {
+            append(
+                hash(key, row),
+                &mut keys.hashes,
+                &mut keys.links,
+                keys.heads.as_mut_slice(),
+            )?;
+        }
+        Ok(keys)
+    }
+
+    /// The number of a row, from 1, that has the key of this row, or 0 where none has it.
+    pub(crate) fn seek(&self, key: &[u32], rows: &[Row], row: &Row) -> u32
+        requires some { 0 < length key.now }
+        requires keys { AreKeysOf key.now rows.now self.now }
+        ensures { Sought key.now rows.now (key_of key.now row.now) result }
+    {
+        seek(
+            key,
+            rows,
+            row,
+            hash(key, row),
+            self.hashes.as_slice(),
+            self.links.as_slice(),
+            self.heads.as_slice(),
+        )
     }
 
     /// Adds a row behind those that are there, unless it has the key of one of them: then the number of that row, from 1.

@@ -3,6 +3,7 @@
 
 mod fault;
 mod hash;
+mod key_index;
 mod keys;
 mod number;
 mod read;
@@ -12,6 +13,7 @@ mod table;
 mod write;
 
 pub use fault::{FirstTableFault, TableFault};
+pub use key_index::KeyIndex;
 pub use number::MOST_NUMBER;
 pub use read::{MOST_FIRST_ROWS, read_first_table};
 pub use table::{MOST_ROWS, read_table};

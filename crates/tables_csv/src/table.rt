@@ -88,7 +88,7 @@ fn rows_left(
 {
     let key = table.key.as_slice();
     let mut rows = List::new(alloc);
-    let mut keys = Keys::new(alloc, key, size)?;
+    let mut keys = Keys::new(alloc, key, size / 4)?;
     let mut fields = ByteRecord::new(alloc);
     while take_record(reader, &mut fields)? {
         if rows.len() == MOST_ROWS {

@@ -1,9 +1,10 @@
 //! What no clause says: that calls succeed, and the bytes of files as they come from elsewhere.
 
 use crate::{
-    FirstTableFault, TableFault, first_table_text, read_first_table, read_table, table_text,
+    FirstTableFault, KeyIndex, TableFault, first_table_text, read_first_table, read_table,
+    table_text,
 };
-use base_kit::{List, Name, Value};
+use base_kit::{List, Name, Txt, Value};
 use std::alloc::Global;
 use std::process::Abort;
 use std::test::Fail;
@@ -241,4 +242,23 @@ fn many_rows(rt: HostRuntime) -> Result<(), Fail> {
     let fewer = many_items(alloc, 199_999)?;
     let ragged = Err(TableFault::Ragged { row: 200_000 });
     ends(&rt, alloc, fewer.as_bytes(), ragged)
+}
+
+#[test]
+fn found_by_key(rt: HostRuntime) -> Result<(), Fail> {
+    let alloc = rt.alloc();
+    let table = items(alloc)?;
+    let rows = read_table(alloc, b"id,name,qty\n7,nut,2\n1,bolt,4\n8,pin,5\n", &table)?;
+    assert!(rt; rows.len() < 1000);
+    let key = [0, 1];
+    let index = KeyIndex::build(alloc, &key, rows.as_slice())?;
+    let pin = [Value::Int(8), Value::Text(Txt::new(alloc, "pin")?)];
+    let other_pin = [Value::Int(7), Value::Text(Txt::new(alloc, "pin")?)];
+    let pin = List::from_vec(Vec::from_array(alloc, pin)?);
+    let other_pin = List::from_vec(Vec::from_array(alloc, other_pin)?);
+    assert_eq!(rt; index.find(&key, rows.as_slice(), &pin), Some(2));
+    assert!(rt; index.find(&key, rows.as_slice(), &other_pin).is_none());
+    let none = KeyIndex::build(alloc, &[], rows.as_slice())?;
+    assert!(rt; none.find(&[], rows.as_slice(), &pin).is_none());
+    Ok(())
 }
