@@ -10,3 +10,5 @@ pub mod Grammar
 pub mod Verdicts
 pub mod AnswerTexts
 pub mod Loops
+pub mod Picks
+pub mod Worlds

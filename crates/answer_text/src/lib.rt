@@ -8,8 +8,10 @@ mod blocks;
 mod lines;
 mod read;
 mod tokens;
+mod world;
 mod write;
 
 pub use answer::{Answer, PartAnswer, Verdict, WorldText};
 pub use read::{AnswerFault, read_answer};
+pub use world::{WorldFault, world_of};
 pub use write::write_answer;
