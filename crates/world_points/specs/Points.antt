@@ -1,0 +1,81 @@
+-- points: one number for each world column, which possible world they are, and what it is worth
+use Rattle.std.specs.Prelude.{◌≡◌, ℤ, pos, neg_ℤ, int_lt, Bool, ◌&&◌, if◌then◌else◌, List, map, Option, Some, None, is_none, Result, Ok, Err}
+use Rattle.std.specs.List.{list_all}
+use Rattle.std.specs.Ordering.{int_eq}
+use Rattle.std.specs.Cmp.Lexicographic.{pointwise}
+use Rattle.base_kit.specs.Asking.{and_then}
+use Rattle.ip_rows.specs.declared.Bounds.{Bounds}
+use Rattle.tiql_query.specs.declared.aim.Aim.{Aim}
+use Rattle.tiql_query.specs.declared.aim.Aim.TheVariants as aims
+use Rattle.tiql_query.specs.declared.query.Query.{Query}
+use Rattle.tiql_query.specs.declared.world_column.WorldColumn.{WorldColumn}
+use Rattle.world_def.specs.declared.fault.EvalFault.{EvalFault}
+use Rattle.world_def.specs.declared.world.World.{World}
+use Rattle.world_def.specs.Columns.{Tables}
+use Rattle.world_def.specs.Worlds.{first_impossible, world_numbers, tables_at}
+use Rattle.world_def.specs.Meaning as meaning
+use Rattle.world_def.specs.Judging.{broken_from, score_asked, rows_in, source_of}
+use Rattle.world_points.specs.declared.fault.PointFault.{PointFault}
+use Rattle.world_points.specs.declared.fault.PointFault.TheVariants as fault
+
+abbrev pub least : ℤ → ℤ → ℤ
+least m n = if int_lt n m then n else m
+
+abbrev pub greatest : ℤ → ℤ → ℤ
+greatest m n = if int_lt m n then n else m
+
+-- the sides of a column: its bounds, which hold 0 as well where its row may be left out
+unfoldable pub side : WorldColumn → Bounds
+side column = if column.droppable then record { lo = least column.lo (pos 0); hi = greatest column.hi (pos 0) } else record { lo = column.lo; hi = column.hi }
+
+-- the box of the columns
+abbrev pub root : List WorldColumn → List Bounds
+root columns = map side columns
+
+-- a score as it is compared: less is better
+unfoldable pub worth : Aim → ℤ → ℤ
+worth aims.Find n = n
+worth (aims.Sum maximize source part) n = if maximize then neg_ℤ n else n
+
+-- the world meets what is required
+abbrev pub is_met : Query → Tables → World → Bool
+is_met query tables world = list_all (λ need. meaning.is_met need (rows_in tables world (source_of need))) query.requires_
+
+-- what a world is worth, where it meets what is required
+abbrev pub value : Query → Tables → World → Option ℤ
+value query tables world = if is_met query tables world then Some (worth query.aim (meaning.score query.aim tables world)) else None
+
+-- the same as it is asked, up to the first value that is too large
+unfoldable pub judged : Query → Tables → World → Result (Option ℤ) EvalFault
+judged query tables world = and_then (broken_from tables world 1 query.requires_) (λ broken.
+    if is_none broken then and_then (score_asked tables world query.aim) (λ n. Ok (Some (worth query.aim n))) else Ok None)
+
+-- the numbers of a world's columns
+abbrev pub numbers : Query → Tables → List WorldColumn → World → List ℤ
+numbers query tables columns world = world_numbers tables world.tables 0 query.hypos columns
+
+-- the world that a point gives
+unfoldable pub world_at : Query → Tables → List WorldColumn → List ℤ → World
+world_at query tables columns point = record { tables = tables_at tables 0 query.hypos columns point }
+
+-- the world is possible, and these are its numbers
+abbrev pub has_numbers : Query → Tables → List WorldColumn → World → List ℤ → Bool
+has_numbers query tables columns world point = is_none (first_impossible tables world.tables 0 query.hypos columns) && pointwise int_eq (numbers query tables columns world) point
+
+-- the point's numbers are those of a possible world, which is then the one that the point gives
+abbrev pub is_of_world : Query → Tables → List WorldColumn → List ℤ → Bool
+is_of_world query tables columns point = has_numbers query tables columns (world_at query tables columns point) point
+
+-- what a point is worth, where its numbers are those of a possible world that meets what is required
+unfoldable pub value_at : Query → Tables → List WorldColumn → List ℤ → Option ℤ
+value_at query tables columns point = if is_of_world query tables columns point then value query tables (world_at query tables columns point) else None
+
+-- the same as it is asked
+unfoldable pub judged_at : Query → Tables → List WorldColumn → List ℤ → Result (Option ℤ) EvalFault
+judged_at query tables columns point = if is_of_world query tables columns point then judged query tables (world_at query tables columns point) else Ok None
+
+-- this is what the asking comes to, unless memory is wanting
+abbrev pub Gives : {A : Type 0} → Result A EvalFault → Result A PointFault → Type 0
+Gives outcome (Ok a) = outcome ≡ Ok a
+Gives outcome (Err (fault.Eval told)) = outcome ≡ Err told
+Gives outcome (Err fault.Memory) = Unit {0}

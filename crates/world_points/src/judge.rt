@@ -1,0 +1,99 @@
+//! What worlds are worth, and the points that are their numbers.
+
+ghost use Rattle.std.specs.Prelude.{◌≡◌, ◌≤◌, ◌<◌, ◌^◌, length, unsigned_abs, IfOk};
+ghost use Rattle.world_def.specs.Columns.{IsSmall};
+ghost use Rattle.world_def.specs.Judging.{IsSmallWorld};
+ghost use Rattle.world_points.specs.Points as spec;
+
+use crate::fault::PointFault;
+use base_kit::{List, Memory};
+use std::alloc::Global;
+use tiql_query::{Aim, Query, WorldColumn};
+use world_def::judge::{meets, score};
+use world_def::numbers::{numbers_of, world_at};
+use world_def::worlds::is_possible;
+use world_def::{EvalFault, Tables, World};
+
+/// What a world is worth, and `None` where it does not meet what is required. The best worlds are worth least: under MAXIMIZE
+/// it is the score with the other sign (docs/MEANING.md, "Score").
+///
+/// The query has no view.
+pub fn judge_world(query: &Query, tables: &Tables, world: &World) -> Result<Option<i128>, EvalFault>
+    requires small { IsSmallWorld tables.now world.now }
+    requires count { length query.now.requires_ < 4294967295 }
+    ensures asked { result ≡ spec.judged query.now tables.now world.now }
+    ensures value { IfOk result (λ worth. worth ≡ spec.value query.now tables.now world.now) }
+{
+    worth_of(query, tables, world)
+}
+
+#[tactic(auto, unfolding(crate::specs::Points::judged))]
+fn worth_of(query: &Query, tables: &Tables, world: &World) -> Result<Option<i128>, EvalFault>
+    requires small { IsSmallWorld tables.now world.now }
+    requires count { length query.now.requires_ < 4294967295 }
+    ensures { result ≡ spec.judged query.now tables.now world.now }
+{
+    match meets(query, tables, world)? {
+        Some(_) => Ok(None),
+        None => {
+            let score = score(query, tables, world)?;
+            Ok(Some(worth(&query.aim, score)))
+        }
+    }
+}
+
+/// A score as it is compared: less is better.
+#[tactic(auto, unfolding(crate::specs::Points::worth))]
+pub fn worth(aim: &Aim, score: i128) -> i128
+    requires { unsigned_abs score ≤ 10 ^ 17 }
+    ensures { result ≡ spec.worth aim.now score }
+{
+    match aim {
+        Aim::Find => score,
+        Aim::Sum { maximize, .. } => { if *maximize { -score } else { score } }
+    }
+}
+
+/// What the world of a point is worth, and `None` where the point's numbers are not those of a possible world, or that world does not
+/// meet what is required.
+///
+/// The query has no view, the columns are those of `world_columns` for the same query and tables, and the point has a number for
+/// each.
+#[tactic(auto, unfolding(crate::specs::Points::judged_at, crate::specs::Points::world_at))]
+pub fn judge_point(
+    alloc: Global,
+    query: &Query,
+    tables: &Tables,
+    columns: &List<WorldColumn>,
+    point: &[i64],
+) -> Result<Option<i128>, PointFault>
+    requires small { IsSmall query.now tables.now }
+    requires count { length query.now.requires_ < 4294967295 }
+    requires long { length point.now ≡ length columns.now }
+    ensures { spec.Gives (spec.judged_at query.now tables.now columns.now point.now) result }
+{
+    let world = world_at(alloc, query, tables, columns, point)?;
+    if !has_numbers(alloc, query, tables, columns, &world, point)? {
+        return Ok(None);
+    }
+    Ok(judge_world(query, tables, &world)?)
+}
+
+/// Whether a world is possible and has these numbers.
+fn has_numbers(
+    alloc: Global,
+    query: &Query,
+    tables: &Tables,
+    columns: &List<WorldColumn>,
+    world: &World,
+    point: &[i64],
+) -> Result<bool, Memory>
+    requires { IsSmall query.now tables.now }
+    ensures { IfOk result (λ has. has ≡ spec.has_numbers query.now tables.now columns.now world.now point.now) }
+{
+    if is_possible(query, tables, columns, world).is_some() {
+        return Ok(false);
+    }
+    let numbers = numbers_of(alloc, query, tables, columns, world)?;
+    Ok(numbers.as_slice() == point)
+}
