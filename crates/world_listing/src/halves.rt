@@ -1,0 +1,52 @@
+//! The column at which a box is split, and the two halves of its sides.
+
+ghost use Rattle.std.specs.Prelude.{◌≡◌, ◌<◌, ◌≤ℤ◌, ◌<ℤ◌, ◌+ℤ◌, pos, length, slice_set, position};
+ghost use Rattle.branch_tree.specs.Boxes.{low_side, high_side};
+ghost use Rattle.branch_tree.specs.Listing.{has_two, IsMiddle};
+
+use ip_rows::Bounds;
+
+/// The first column that has two values.
+pub(crate) fn first_open(sides: &[Bounds]) -> Option<usize>
+    ensures { result ≡ position has_two sides.now }
+{
+    sides.iter().position(|side| side.lo < side.hi)
+}
+
+/// The middle of the sides, rounded down.
+pub(crate) fn middle(side: Bounds) -> i64
+    requires { side.lo <ℤ side.hi }
+    ensures low { side.lo ≤ℤ result }
+    ensures high { result <ℤ side.hi }
+    ensures middle { IsMiddle side result }
+{
+    // The width fits an unsigned number also where it passes the signed ones.
+    let half = side.hi.abs_diff(side.lo) / 2;
+    side.lo + half as i64
+}
+
+/// The halves of the sides: up to the number, and from the next one on.
+pub(crate) fn halves(side: Bounds, at: i64) -> (Bounds, Bounds)
+    requires from { side.lo ≤ℤ at }
+    requires to { at <ℤ side.hi }
+    ensures low { result.0 ≡ low_side side at }
+    ensures high { result.1 ≡ high_side side at }
+{
+    let low = Bounds {
+        lo: side.lo,
+        hi: at,
+    };
+    let high = Bounds {
+        lo: at + 1,
+        hi: side.hi,
+    };
+    (low, high)
+}
+
+/// Writes the sides of one column.
+pub(crate) fn put(sides: &mut [Bounds], column: usize, side: Bounds)
+    requires { column < length sides.old }
+    ensures { sides.new ≡ slice_set sides.old column side }
+{
+    sides[column] = side;
+}
