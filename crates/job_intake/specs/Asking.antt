@@ -1,0 +1,41 @@
+-- what a text asks: a sound query without views
+use Rattle.std.specs.Prelude.{◌≡◌, ◌≢◌, ◌<◌, ℕ, List, [], length, Result, Ok, Err}
+use Rattle.base_kit.specs.declared.place.Place.{Place}
+use Rattle.tiql_tree.specs.declared.tree.Tree.{Tree}
+use Rattle.tiql_tree.specs.Spelled.{Spelled, IsStop}
+use Rattle.tiql_query.specs.declared.query.Query.{Query}
+use Rattle.tiql_query.specs.WellFormed.{IsWellFormed}
+use Rattle.tiql_check.specs.declared.fault.SoundFault.{SoundFault}
+use Rattle.tiql_check.specs.declared.fault.SoundFault.TheVariants as rules
+use Rattle.tiql_check.specs.Sound.{Sound, FirstBroken}
+use Rattle.job_intake.specs.declared.refusal.Refusal.{Refusal}
+use Rattle.job_intake.specs.declared.refusal.Refusal.TheVariants as refusal
+use Rattle.job_intake.specs.Steps.{Then}
+
+-- the tree that the bytes spell, or the place at which they stop
+abbrev pub TreeComes : List ℕ → Result Tree Refusal → Type 0
+TreeComes bytes (Ok tree) = Spelled bytes tree
+TreeComes bytes (Err why) = (place : Place) × (why ≡ refusal.Syntax place) × IsStop bytes place
+
+-- the query that the tree says, or the rule that it breaks first
+abbrev pub QueryComes : Tree → Result Query Refusal → Type 0
+QueryComes tree (Ok query) = Sound tree query
+QueryComes tree (Err why) = (fault : SoundFault) × (why ≡ refusal.Unsound fault) × (fault ≢ rules.Memory) × FirstBroken tree fault
+
+-- views are not built yet
+abbrev pub BuiltComes : List ℕ → Query → Result Query Refusal → Type 0
+BuiltComes name query (Ok same) = (same ≡ query) × (query.views ≡ [])
+BuiltComes name query (Err why) = (why ≡ refusal.NotBuilt name) × (0 < length query.views)
+
+abbrev pub AskComes : List ℕ → List ℕ → Result Query Refusal → Type 0
+AskComes name bytes = Then (TreeComes bytes) (λ tree. Then (QueryComes tree) (BuiltComes name))
+
+-- the query fits together, and has as few hypothetical tables and requirements as 32 bits number
+pub record IsNumbered (query : Query) : Type 0 where
+  pub fit : IsWellFormed query
+  pub hypos : length query.hypos < 4294967295
+  pub requires_ : length query.requires_ < 4294967295
+
+pub record IsAsked (query : Query) : Type 0 where
+  pub numbered : IsNumbered query
+  pub built : query.views ≡ []

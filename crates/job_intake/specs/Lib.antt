@@ -1,0 +1,11 @@
+pub mod Asking
+pub mod Bounding
+pub mod Files
+pub mod Forms
+pub mod Jobs
+pub mod Loading
+pub mod Ready
+pub mod Steps
+pub mod Tasks
+pub mod Visits
+pub mod Words

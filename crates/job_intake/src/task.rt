@@ -1,0 +1,46 @@
+//! What is to be done with a query and its tables.
+
+ghost use Rattle.std.specs.Prelude.{◌≡◌, ◌+◌, ◌^◌, ◌<◌, length, OnOk, IfOk};
+ghost use Rattle.job_intake.specs.Forms as forms;
+ghost use Rattle.job_intake.specs.Steps.{Gives, FailsAs, KeepsCounts};
+ghost use Rattle.job_intake.specs.Tasks as spec;
+ghost use Rattle.job_intake.specs.Visits.{visit};
+
+use crate::fetch::{MOST_ANSWER_BYTES, fetch_file};
+use crate::job::Task;
+use crate::refusal::{Refusal, Stop};
+use crate::words::Command;
+use answer_text::{AnswerFault, read_answer};
+use outside_io::Shelf;
+use std::alloc::Global;
+
+/// The task that the words name: to solve, or to check the answer that is fetched and read.
+pub fn task_of<S: Shelf>(alloc: Global, shelf: &mut S, command: Command<'_>) -> Result<Task, Stop>
+    requires { forms.IsBudgetedCommand command }
+    ensures held { S.held shelf.new ≡ S.held shelf.old }
+    ensures counts { OnOk result (KeepsCounts (visit S.held S.misses S.faults shelf.old shelf.new)) }
+    ensures failed { FailsAs (S.faults shelf.old) (S.faults shelf.new) result }
+    ensures comes { Gives (spec.TaskComes (visit S.held S.misses S.faults shelf.old shelf.new) (forms.command command.entry)) result }
+    ensures taken { IfOk result spec.IsTaken }
+{
+    match command {
+        Command::Solve { nodes } => Ok(Task::Solve { nodes }),
+        Command::Check { answer } => {
+            let bytes = fetch_file(alloc, shelf, answer, MOST_ANSWER_BYTES)?;
+            read_task(alloc, bytes.as_slice())
+        }
+    }
+}
+
+/// The task of checking the answer whose text the bytes are.
+fn read_task(alloc: Global, bytes: &[u8]) -> Result<Task, Stop>
+    requires { length bytes.now + 1 < 2 ^ 32 }
+    ensures comes { Gives (spec.AnswerComes bytes.now) result }
+    ensures taken { IfOk result spec.IsTaken }
+{
+    match read_answer(alloc, bytes) {
+        Ok(answer) => Ok(Task::Check { answer }),
+        Err(AnswerFault::BadAnswer { line }) => Err(Stop::Refused(Refusal::Unreadable { line })),
+        Err(AnswerFault::Memory) => Err(Stop::Memory),
+    }
+}
