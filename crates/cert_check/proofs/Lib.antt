@@ -1,11 +1,9 @@
 pub mod Accepted
-pub mod Listed
+pub mod Given
+pub mod Lengths
 pub mod Nodes
 pub mod Parts
-pub mod Sections
-pub mod Sizes
 pub mod Sound
-pub mod Spelled
 pub mod Verdicts
 pub mod Walks
-pub mod Worlds
+pub mod Worths

@@ -1,21 +1,26 @@
 -- An answer for which no reason comes is valid, and for a valid answer none comes.
-use Rattle.std.proofs.Common.{◌≡◌, ℕ, zero, suc, ◌+◌, ◌<◌, ℤ, ◌≤ℤ◌, ◌<ℤ◌, Bool, true, false, not, List, [], ◌∷◌, length, get_or, refl, ◌∙◌, ap, arith}
+use Rattle.std.proofs.Common.{◌≡◌, ℕ, zero, suc, ◌+◌, ◌<◌, ℤ, ◌≤ℤ◌, ◌<ℤ◌, Bool, true, false, not, List, [], ◌∷◌, length, get_or, refl, sym, ◌∙◌, ap, subst, arith}
 use Rattle.std.specs.Prelude.{Option, Some, None, Ok, Err, is_some, position, int_le, int_lt, nat_lt, ◌&&◌, ◌||◌}
 use Rattle.std.proofs.lemmas.Int.{ints}
 use Rattle.std.proofs.lemmas.List.Quantifiers.{position-Some}
 use Rattle.ip_rows.specs.declared.Bounds.{Bounds}
-use Rattle.tiql_read.specs.declared.query.FirstQuery.{FirstQuery}
+use Rattle.tiql_query.specs.declared.query.Query.{Query}
+use Rattle.tiql_query.specs.declared.world_column.WorldColumn.{WorldColumn}
 use Rattle.branch_tree.specs.declared.node.Leaf.TheVariants as leaf
 use Rattle.branch_tree.specs.Tree.{Tree, closed, split, preorder}
 use Rattle.branch_tree.specs.Boxes.{IsParted, low_box, high_box}
 use Rattle.branch_tree.specs.Listing.{AreSides, AreFixed, Closes, NoBetter, has_two, lows, is_done}
 use Rattle.branch_tree.proofs.Columns.{no_side, one_point, sides_low, sides_high}
 use Rattle.branch_tree.proofs.Covering.{both_first, both_second}
-use Rattle.world_def.specs.First.{Rows, value_of}
+use Rattle.world_def.specs.Columns.{Tables}
+use Rattle.world_points.specs.Points.{judged_at, value_at}
 use Rattle.cert_check.specs.declared.fault.Reject.{Reject}
 use Rattle.cert_check.specs.declared.fault.Reject.TheVariants as reject
 use Rattle.cert_check.specs.Reasons.{Outcome, ◌>>◌, unless, beats, is_parted, have_two, in_tree}
+use Rattle.cert_check.specs.Valid.{IsSoundTree}
+use Rattle.world_points.proofs.Told.{agree}
 use Rattle.cert_check.proofs.Nodes.{parted_of, unless_ok}
+use Rattle.cert_check.proofs.Worths.{asked_ok, ok_asked, sound_ok}
 
 -- both of two reasons stay away
 pub first_ok : (a b : Outcome) → (a >> b) ≡ Ok tt → a ≡ Ok tt
@@ -98,18 +103,20 @@ parted_test sides column at parted = all_three _ _ _ (below _ _ parted.there) (a
     less : (m n : ℤ) → m <ℤ n → int_lt m n ≡ true
     less m n e = grind (arith, ints)
 
-module _ (query : FirstQuery) (table : Rows) (best : Option ℤ) (part : ℕ) where
+module _ (query : Query) (tables : Tables) (columns : List WorldColumn) (best : Option ℤ) (part : ℕ) where
   -- a tree in which nothing is wrong is done and closes
-  pub tree_right : (tree : Tree) (sides : List Bounds) (place : ℕ) → AreSides sides → in_tree query table best tree sides part place ≡ Ok tt → (is_done tree ≡ true) × Closes (value_of query table) best tree sides
+  pub tree_right : (tree : Tree) (sides : List Bounds) (place : ℕ) → AreSides sides → in_tree query tables columns best tree sides part place ≡ Ok tt → (is_done tree ≡ true) × Closes (value_at query tables columns) best tree sides
   tree_right (closed leaf.Pending) sides place all right = cc
   tree_right (closed leaf.Fixed) sides place all right =
-      let fixed = unless_ok (not (have_two sides)) reject.NotFixed part place (first_ok (unless (not (have_two sides)) reject.NotFixed part place) _ right) in
-      let beaten = unless_ok (not (beats best (value_of query table (lows sides)))) reject.FixedBeats part place (next_ok (unless (not (have_two sides)) reject.NotFixed part place) _ right) in
-      (refl, (fixed_of_test sides all (not_true _ fixed), no_better best (value_of query table (lows sides)) (not_true _ beaten)))
+      let alone = unless (not (have_two sides)) reject.NotFixed part place in
+      let fixed = unless_ok (not (have_two sides)) reject.NotFixed part place (first_ok alone _ right) in
+      let told = asked_ok (judged_at query tables columns (lows sides)) (λ value. unless (not (beats best value)) reject.FixedBeats part place) tt (next_ok alone _ right) in
+      let beaten = unless_ok (not (beats best told.0)) reject.FixedBeats part place told.2 in
+      (refl, (fixed_of_test sides all (not_true _ fixed), subst (NoBetter best) (sym (agree query tables columns (lows sides) told.0 told.1)) (no_better best told.0 (not_true _ beaten))))
   tree_right (split column at reason low high) sides place all right =
       let parts = unless (is_parted sides column at) reject.WrongSplit part place in
-      let in_low = in_tree query table best low (low_box sides column at) part (place + 1) in
-      let in_high = in_tree query table best high (high_box sides column at) part (place + 1 + length (preorder low)) in
+      let in_low = in_tree query tables columns best low (low_box sides column at) part (place + 1) in
+      let in_high = in_tree query tables columns best high (high_box sides column at) part (place + 1 + length (preorder low)) in
       let parted = parted_of sides column at (unless_ok (is_parted sides column at) reject.WrongSplit part place (first_ok parts (in_low >> in_high) right)) in
       let rest = next_ok parts (in_low >> in_high) right in
       let one = tree_right low (low_box sides column at) (place + 1) (sides_low sides column at all parted) (first_ok in_low in_high rest) in
@@ -119,16 +126,19 @@ module _ (query : FirstQuery) (table : Rows) (best : Option ℤ) (part : ℕ) wh
       both_true : (a b : Bool) → a ≡ true → b ≡ true → (a && b) ≡ true
       both_true a b one other = cc
 
-  -- and nothing is wrong in a tree that is done and closes
-  pub right_tree : (tree : Tree) (sides : List Bounds) (place : ℕ) → is_done tree ≡ true → Closes (value_of query table) best tree sides → in_tree query table best tree sides part place ≡ Ok tt
-  right_tree (closed leaf.Pending) sides place done closes = absurd cc
-  right_tree (closed leaf.Fixed) sides place done closes =
+  -- and nothing is wrong in a tree that is done and closes, where no value is too large
+  pub right_tree : (tree : Tree) (sides : List Bounds) (place : ℕ) → is_done tree ≡ true → Closes (value_at query tables columns) best tree sides → IsSoundTree query tables columns tree sides → in_tree query tables columns best tree sides part place ≡ Ok tt
+  right_tree (closed leaf.Pending) sides place done closes sound = absurd cc
+  right_tree (closed leaf.Fixed) sides place done closes sound =
+      let told = sound_ok (judged_at query tables columns (lows sides)) sound in
+      let none : NoBetter best told.0 = subst (NoBetter best) (agree query tables columns (lows sides) told.0 told.1) closes.1 in
       both_ok (unless (not (have_two sides)) reject.NotFixed part place) _
       (holds_ok (not (have_two sides)) reject.NotFixed part place (ap not (test_of_fixed sides closes.0)))
-      (holds_ok (not (beats best (value_of query table (lows sides)))) reject.FixedBeats part place (ap not (never_beats best (value_of query table (lows sides)) closes.1)))
-  right_tree (split column at reason low high) sides place done closes =
+      (ok_asked (judged_at query tables columns (lows sides)) (λ value. unless (not (beats best value)) reject.FixedBeats part place) told.0 tt told.1
+      (holds_ok (not (beats best told.0)) reject.FixedBeats part place (ap not (never_beats best told.0 none))))
+  right_tree (split column at reason low high) sides place done closes sound =
       both_ok (unless (is_parted sides column at) reject.WrongSplit part place) _
       (holds_ok (is_parted sides column at) reject.WrongSplit part place (parted_test sides column at closes.0))
-      (both_ok (in_tree query table best low (low_box sides column at) part (place + 1)) _
-      (right_tree low (low_box sides column at) (place + 1) (both_first _ _ done) closes.1)
-      (right_tree high (high_box sides column at) (place + 1 + length (preorder low)) (both_second _ _ done) closes.2))
+      (both_ok (in_tree query tables columns best low (low_box sides column at) part (place + 1)) _
+      (right_tree low (low_box sides column at) (place + 1) (both_first _ _ done) closes.1 sound.0)
+      (right_tree high (high_box sides column at) (place + 1 + length (preorder low)) (both_second _ _ done) closes.2 sound.1))

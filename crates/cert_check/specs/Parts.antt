@@ -1,24 +1,12 @@
--- The world and the one part of an answer to a first query.
-use Rattle.std.specs.Prelude.{◌≡◌, ℕ, zero, suc, List, [], ◌∷◌, length}
-use Rattle.tiql_read.specs.declared.query.FirstQuery.{FirstQuery}
-use Rattle.answer_text.specs.declared.answer.WorldText.{WorldText}
-use Rattle.tables_csv.specs.Tables.{IsFirstTable}
-use Rattle.world_def.specs.First.{Rows, IsPossible}
+-- The one part of an answer: the columns with two values.
+use Rattle.std.specs.Prelude.{ℕ, ◌+◌, List, [], ◌∷◌, if◌then◌else◌}
+use Rattle.ip_rows.specs.declared.Bounds.{Bounds}
+use Rattle.branch_tree.specs.Listing.{has_two}
 
--- so many numbers from one on
-abbrev pub count_from : ℕ → ℕ → List ℕ
-count_from first zero = []
-count_from first (suc count) = first ∷ count_from (suc first) count
+-- the numbers of the sides with two values; this is the number of the first side
+unfoldable pub open_from : ℕ → List Bounds → List ℕ
+open_from column [] = []
+open_from column (side ∷ sides) = if has_two side then column ∷ open_from (column + 1) sides else open_from (column + 1) sides
 
--- the section of the hypothetical table: its bytes are a table of the world's rows
-pub record IsSection (query : FirstQuery) (world : Rows) (text : WorldText) : Type 0 where
-  pub name : text.name ≡ query.hypo
-  pub rows : text.rows ≡ length world
-  pub table : IsFirstTable text.bytes query.columns world
-
--- the sections are the one of this world, which is possible
-pub record IsWorldOf (query : FirstQuery) (table : Rows) (worlds : List WorldText) (world : Rows) : Type 0 where
-  pub text : WorldText
-  pub one : worlds ≡ text ∷ []
-  pub section : IsSection query world text
-  pub possible : IsPossible query table world
+abbrev pub open_columns : List Bounds → List ℕ
+open_columns sides = open_from 0 sides

@@ -1,21 +1,29 @@
--- The first reason for which an answer is refused, with its part and node.
-use Rattle.std.specs.Prelude.{◌≡◌, ◌+◌, ℕ, ℤ, ◌==◌, Bool, true, false, not, ◌&&◌, List, [], ◌∷◌, length, Option, Some, None, is_none, Result, Ok, Err, int_le, int_lt, nat_lt, bytes_eq}
-use Rattle.std.specs.List.{AllZip, list_all, list_any}
+-- The first reason for which an answer is refused, with its part and node, or the first value that is too large in a world that is judged.
+use Rattle.std.specs.Prelude.{◌≡◌, ◌+◌, ℕ, ℤ, ◌==◌, Bool, true, false, not, ◌&&◌, List, [], ◌∷◌, length, Option, Some, None, is_none, slice_get, Result, Ok, Err, int_le, int_lt, nat_lt, bytes_eq}
+use Rattle.std.specs.List.{AllZip, list_any}
 use Rattle.std.specs.Ordering.{int_eq}
+use Rattle.base_kit.specs.Asking.{and_then}
 use Rattle.ip_rows.specs.declared.Bounds.{Bounds}
-use Rattle.tiql_read.specs.declared.query.FirstQuery.{FirstQuery}
+use Rattle.tiql_query.specs.declared.query.Query.{Query}
+use Rattle.tiql_query.specs.declared.world_column.WorldColumn.{WorldColumn}
 use Rattle.branch_tree.specs.declared.node.Leaf.{Leaf}
 use Rattle.branch_tree.specs.declared.node.Leaf.TheVariants as leaf
 use Rattle.branch_tree.specs.Tree.{Tree, closed, split, preorder}
 use Rattle.branch_tree.specs.Boxes.{side_at, low_box, high_box}
-use Rattle.branch_tree.specs.Listing.{has_two, lows}
+use Rattle.branch_tree.specs.Listing as listing
+use Rattle.answer_text.specs.Worlds.{IsWorldOf}
 use Rattle.answer_text.specs.declared.answer.Answer.{Answer}
 use Rattle.answer_text.specs.declared.answer.PartAnswer.{PartAnswer}
 use Rattle.answer_text.specs.declared.answer.Verdict.{Verdict}
 use Rattle.answer_text.specs.declared.answer.Verdict.TheVariants as verdict
 use Rattle.answer_text.specs.declared.answer.WorldText.{WorldText}
-use Rattle.world_def.specs.First.{Rows, passes, score, value_of, root}
-use Rattle.cert_check.specs.Parts.{IsWorldOf, count_from}
+use Rattle.world_def.specs.declared.world.World.{World}
+use Rattle.world_def.specs.Columns.{Tables}
+use Rattle.world_def.specs.Judging.{broken_from, score_asked}
+use Rattle.world_def.specs.Meaning.{IsPossible}
+use Rattle.world_points.specs.Points.{judged_at, root, worth}
+use Rattle.cert_check.specs.Faults.{asking}
+use Rattle.cert_check.specs.Parts.{open_columns}
 use Rattle.cert_check.specs.declared.fault.Reject.{Reject}
 use Rattle.cert_check.specs.declared.fault.Reject.TheVariants as reject
 use Rattle.cert_check.specs.declared.fault.CheckFault.{CheckFault}
@@ -58,24 +66,34 @@ is_same (Some best) (Some value) = int_eq best value
 abbrev pub is_parted : List Bounds → ℕ → ℤ → Bool
 is_parted sides column at = nat_lt column (length sides) && int_le (side_at sides column).lo at && int_lt at (side_at sides column).hi
 
+abbrev pub has_two : Bounds → Bool
+has_two side = listing.has_two side
+
 -- some column has two values
 abbrev pub have_two : List Bounds → Bool
 have_two sides = list_any has_two sides
 
--- the columns are so many numbers from 0 on
-abbrev pub are_counted : List ℕ → ℕ → Bool
-are_counted columns count = bytes_eq columns (count_from 0 count)
+-- the number stands in this place
+abbrev pub has_at : List ℕ → ℕ → ℕ → Bool
+has_at columns place number = is_it (slice_get columns place)
+  where
+    is_it : Option ℕ → Bool
+    is_it None = false
+    is_it (Some column) = column == number
+
+-- these are the numbers of the columns with two values
+abbrev pub are_open : List ℕ → List Bounds → Bool
+are_open columns sides = bytes_eq columns (open_columns sides)
 
 -- the part has the number and the columns of the one part
-abbrev pub is_the_part : Rows → PartAnswer → Bool
-is_the_part table part = part.number == 1 && are_counted part.columns (length table)
+abbrev pub is_the_part : List Bounds → PartAnswer → Bool
+is_the_part sides part = part.number == 1 && are_open part.columns sides
 
--- the sections that a verdict shows
-abbrev pub worlds_of : Verdict → List WorldText
-worlds_of (verdict.Optimal objective worlds parts) = worlds
-worlds_of (verdict.FalseRow row) = []
-worlds_of (verdict.NoWorld part) = []
-worlds_of (verdict.Unfinished nodes parts) = []
+-- the parts are all parts in order
+abbrev pub are_all_parts : List Bounds → List PartAnswer → Bool
+are_all_parts sides [] = not (have_two sides)
+are_all_parts sides (part ∷ []) = have_two sides && is_the_part sides part
+are_all_parts sides (part ∷ next ∷ more) = false
 
 -- the parts that a verdict shows
 abbrev pub parts_of : Verdict → List PartAnswer
@@ -94,13 +112,34 @@ is_finished (verdict.Unfinished nodes parts) = false
 abbrev pub has_no_program : Answer → Bool
 has_no_program answer = answer.columns == 0 && answer.rows == 0 && answer.formulas == 0
 
-module _ (query : FirstQuery) (table : Rows) where
-  -- at a leaf: an open one, a box with two worlds, or a world that beats the best value
+module _ (query : Query) (tables : Tables) where
+  -- what the world of an optimal answer is worth: it does not meet, or the objective is not its score
+  unfoldable pub worth_of : ℤ → World → Result ℤ CheckFault
+  worth_of objective world =
+      and_then (asking (broken_from tables world 1 query.requires_)) (λ broken.
+      and_then (unless (is_none broken) reject.WorldBreaks 0 0) (λ meets.
+      and_then (asking (score_asked tables world query.aim)) (λ score.
+      and_then (unless (int_eq objective score) reject.WrongObjective 0 0) (λ right. Ok (worth query.aim score)))))
+
+  -- the sections give a possible world, or none
+  abbrev pub Give : List WorldText → Option World → Type 0
+  Give worlds (Some world) = IsWorldOf query tables worlds world × IsPossible query tables world
+  Give worlds None = (world : World) → IsWorldOf query tables worlds world → IsPossible query tables world → ⊥
+
+  -- so do those of an optimal answer; no other verdict shows sections
+  abbrev pub IsGiven : Verdict → Option World → Type 0
+  IsGiven (verdict.Optimal objective worlds parts) given = Give worlds given
+  IsGiven (verdict.FalseRow row) given = given ≡ None
+  IsGiven (verdict.NoWorld part) given = given ≡ None
+  IsGiven (verdict.Unfinished nodes parts) given = given ≡ None
+
+module _ (query : Query) (tables : Tables) (columns : List WorldColumn) where
+  -- at a leaf: an open one, a box with two points, a world with a value that is too large, or a world that beats the best value
   abbrev pub at_leaf : Option ℤ → Leaf → List Bounds → ℕ → ℕ → Outcome
   at_leaf best leaf.Pending sides part node = Err (fault.Rejected reject.OpenNode part node)
   at_leaf best leaf.Fixed sides part node =
       unless (not (have_two sides)) reject.NotFixed part node
-      >> unless (not (beats best (value_of query table (lows sides)))) reject.FixedBeats part node
+      >> and_then (asking (judged_at query tables columns (listing.lows sides))) (λ value. unless (not (beats best value)) reject.FixedBeats part node)
 
   -- in a tree over a box, whose first node has this number: a split that does not part its box, or what is wrong at a leaf
   abbrev pub in_tree : Option ℤ → Tree → List Bounds → ℕ → ℕ → Outcome
@@ -110,21 +149,11 @@ module _ (query : FirstQuery) (table : Rows) where
       >> in_tree best low (low_box sides column at) part (node + 1)
       >> in_tree best high (high_box sides column at) part (node + 1 + length (preorder low))
 
-  -- a column has two values
-  abbrev pub has_choice : Bool
-  has_choice = have_two (root query table)
-
-  -- the parts are all parts in order
-  abbrev pub are_all_parts : List PartAnswer → Bool
-  are_all_parts [] = not has_choice
-  are_all_parts (part ∷ []) = has_choice && is_the_part table part
-  are_all_parts (part ∷ next ∷ more) = false
-
   -- in a part with this tree: its best value is another, or what is wrong in the tree
   abbrev pub in_part : Option ℤ → PartAnswer → Tree → Outcome
   in_part best part tree =
       unless (is_same part.best best) reject.BestDiffers part.number 0
-      >> in_tree best tree (root query table) part.number 1
+      >> in_tree best tree (root columns) part.number 1
 
   -- in one part after another
   abbrev pub in_parts : Option ℤ → List PartAnswer → List Tree → Outcome
@@ -132,35 +161,32 @@ module _ (query : FirstQuery) (table : Rows) where
   in_parts best (part ∷ parts) [] = Ok tt
   in_parts best (part ∷ parts) (tree ∷ trees) = in_part best part tree >> in_parts best parts trees
 
-  -- for an optimal answer: its sections give no possible world, the world does not meet, its score is not the objective,
   -- other parts are shown than all, or what is wrong in them
-  abbrev pub of_world : ℤ → List PartAnswer → List Tree → Option Rows → Outcome
+  abbrev pub of_parts : Option ℤ → List PartAnswer → List Tree → Outcome
+  of_parts best parts trees = unless (are_all_parts (root columns) parts) reject.WrongParts 0 0 >> in_parts best parts trees
+
+  -- for an optimal answer: its sections give no possible world, what is wrong with its world, or in the parts
+  abbrev pub of_world : ℤ → List PartAnswer → List Tree → Option World → Outcome
   of_world objective parts trees None = Err (fault.Rejected reject.WrongWorld 0 0)
-  of_world objective parts trees (Some world) =
-      unless (list_all (passes query) world) reject.WorldBreaks 0 0
-      >> unless (int_eq objective (score query world)) reject.WrongObjective 0 0
-      >> unless (are_all_parts parts) reject.WrongParts 0 0
-      >> in_parts (Some (score query world)) parts trees
+  of_world objective parts trees (Some world) = and_then (worth_of query tables objective world) (λ best. of_parts (Some best) parts trees)
 
-  -- no column has two values, and the one world does not meet: the one row is false
-  abbrev pub is_false_row : ℕ → Bool
-  is_false_row row = row == 0 && not has_choice && is_none (value_of query table (lows (root query table)))
+  -- for an impossible answer with a row: a column has two values, or the one world meets
+  abbrev pub of_row : ℕ → Outcome
+  of_row row =
+      unless (row == 0 && not (have_two (root columns))) reject.RowHolds 0 0
+      >> and_then (asking (judged_at query tables columns (listing.lows (root columns)))) (λ value. unless (is_none value) reject.RowHolds 0 0)
 
-  abbrev pub of_verdict : Option Rows → List Tree → Verdict → Outcome
+  abbrev pub of_verdict : Option World → List Tree → Verdict → Outcome
   of_verdict given trees (verdict.Optimal objective worlds parts) = of_world objective parts trees given
-  of_verdict given trees (verdict.FalseRow row) = unless (is_false_row row) reject.RowHolds 0 0
-  of_verdict given trees (verdict.NoWorld part) = unless (has_choice && is_the_part table part) reject.WrongParts 0 0 >> in_parts None (part ∷ []) trees
+  of_verdict given trees (verdict.FalseRow row) = of_row row
+  of_verdict given trees (verdict.NoWorld part) =
+      unless (have_two (root columns) && is_the_part (root columns) part) reject.WrongParts 0 0 >> in_parts None (part ∷ []) trees
   of_verdict given trees (verdict.Unfinished nodes parts) = Ok tt
-
-  -- the sections give a possible world, or none
-  abbrev pub Give : List WorldText → Option Rows → Type 0
-  Give worlds (Some world) = IsWorldOf query table worlds world
-  Give worlds None = (world : Rows) → IsWorldOf query table worlds world → ⊥
 
   -- what is wrong with a verdict, where its sections give this world, if one, and its parts have these trees
   pub record IsOfVerdict (answer : Verdict) (outcome : Outcome) : Type 0 where
-    pub given : Option Rows
-    pub worlds : Give (worlds_of answer) given
+    pub given : Option World
+    pub worlds : IsGiven query tables answer given
     pub trees : List Tree
     pub parts : AllZip (λ part tree. part.tree ≡ preorder tree) (parts_of answer) trees
     pub first : outcome ≡ of_verdict given trees answer
@@ -176,4 +202,5 @@ module _ (query : FirstQuery) (table : Rows) where
   abbrev pub Tells : Answer → Outcome → Type 0
   Tells answer (Ok x) = IsOutcome answer (Ok tt)
   Tells answer (Err fault.Memory) = Unit {0}
+  Tells answer (Err (fault.Wide source number)) = IsOutcome answer (Err (fault.Wide source number))
   Tells answer (Err (fault.Rejected reason part node)) = IsOutcome answer (Err (fault.Rejected reason part node))

@@ -2,11 +2,12 @@
 use Rattle.std.specs.Prelude.{◌+◌, ◌<◌, ℕ, ℤ, if◌then◌else◌, List, [], ◌∷◌, length, reverse, Option, Some, None, Ok, slice_set}
 use Rattle.std.specs.List.{All}
 use Rattle.ip_rows.specs.declared.Bounds.{Bounds}
-use Rattle.tiql_read.specs.declared.query.FirstQuery.{FirstQuery}
+use Rattle.tiql_query.specs.declared.query.Query.{Query}
+use Rattle.tiql_query.specs.declared.world_column.WorldColumn.{WorldColumn}
 use Rattle.branch_tree.specs.declared.node.Node.{Node}
 use Rattle.branch_tree.specs.declared.node.Node.TheVariants as node
 use Rattle.branch_tree.specs.Boxes.{IsParted, low_box, high_box}
-use Rattle.world_def.specs.First.{Rows}
+use Rattle.world_def.specs.Columns.{Tables}
 use Rattle.cert_check.specs.declared.fault.Reject.TheVariants as reject
 use Rattle.cert_check.specs.declared.walk.Turn.{Turn}
 use Rattle.cert_check.specs.declared.walk.Walk.{Walk}
@@ -49,11 +50,11 @@ PartsFirst (node.Closed leaf) more = Unit {0}
 PartsFirst (node.Split column at reason) [] = ⊥
 PartsFirst (node.Split column at reason) (sides ∷ more) = IsParted sides column at
 
-module _ (query : FirstQuery) (table : Rows) (best : Option ℤ) (part : ℕ) where
+module _ (query : Query) (tables : Tables) (columns : List WorldColumn) (best : Option ℤ) (part : ℕ) where
   -- what is wrong at a node
   abbrev pub at_node : Node → List Bounds → ℕ → Outcome
   at_node (node.Split column at reason) sides place = unless (is_parted sides column at) reject.WrongSplit part place
-  at_node (node.Closed leaf) sides place = at_leaf query table best leaf sides part place
+  at_node (node.Closed leaf) sides place = at_leaf query tables columns best leaf sides part place
 
   -- what is wrong first at these nodes, from this number on, over these boxes
   abbrev pub in_nodes : List Node → List (List Bounds) → ℕ → Outcome

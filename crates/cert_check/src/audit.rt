@@ -1,25 +1,24 @@
 //! A part of an answer, gone through node by node.
 
-ghost use Rattle.std.specs.Prelude.{◌≡◌};
+ghost use Rattle.std.specs.Prelude.{◌≡◌, length};
 ghost use Rattle.branch_tree.specs.Tree.{Tree, preorder};
 ghost use Rattle.cert_check.specs.Checks as told;
 ghost use Rattle.cert_check.specs.Reasons as spec;
 ghost use Rattle.cert_check.specs.Walks as walk;
 
 use crate::fault::{CheckFault, Reject};
+use crate::part::have_two;
+use crate::subject::Subject;
 use crate::walk::Walk;
-use base_kit::{List, Row};
+use base_kit::List;
 use branch_tree::{Branches, Leaf, Node};
 use ip_rows::Bounds;
 use std::alloc::Global;
-use tiql_read::FirstQuery;
-use world_def::value_at;
 
 /// A part with the best value against which its leaves close.
 #[derive(Clone, Copy, Debug)]
 pub struct Audit<'a> {
-    pub query: &'a FirstQuery,
-    pub table: &'a [Row],
+    pub subject: Subject<'a>,
     pub best: Option<i128>,
     /// The part's number.
     pub part: u32,
@@ -33,38 +32,50 @@ impl Audit<'_> {
         root: List<Bounds>,
         tree: &Branches,
     ) -> Result<(), CheckFault>
-        ensures { (whole : Tree) → tree.now ≡ preorder whole → told.Gives (spec.in_tree self.now.query.now self.now.table.now self.now.best whole root self.now.part 1) result }
+        requires subject { told.IsSubject self.now.subject }
+        requires long { length root ≡ length self.now.subject.columns.now }
+        ensures { (whole : Tree) → tree.now ≡ preorder whole → told.Gives (spec.in_tree self.now.subject.query.now self.now.subject.tables.now self.now.subject.columns.now self.now.best whole root self.now.part 1) result }
     {
         let mut walk = Walk::new(alloc, root);
         for (at, node) in tree.nodes().as_slice().iter().enumerate() {
             let Some(sides) = walk.here() else {
                 return Ok(());
             };
-            self.check_node(node, sides, at as u32 + 1)?;
+            self.check_node(alloc, node, sides, at as u32 + 1)?;
             walk.pass(node)?;
         }
         Ok(())
     }
 
     /// Checks the node with this number, counted from 1, and its box.
-    fn check_node(&self, node: &Node, sides: &[Bounds], place: u32) -> Result<(), CheckFault>
-        ensures { result ≡ walk.at_node self.now.query.now self.now.table.now self.now.best self.now.part node.now sides.now place }
+    fn check_node(
+        &self,
+        alloc: Global,
+        node: &Node,
+        sides: &[Bounds],
+        place: u32,
+    ) -> Result<(), CheckFault>
+        requires subject { told.IsSubject self.now.subject }
+        requires long { length sides.now ≡ length self.now.subject.columns.now }
+        ensures { told.Gives (walk.at_node self.now.subject.query.now self.now.subject.tables.now self.now.subject.columns.now self.now.best self.now.part node.now sides.now place) result }
     {
         match node {
             Node::Split { column, at, .. } => {
                 self.need(is_parted(sides, *column, *at), Reject::WrongSplit, place)
             }
             Node::Closed(Leaf::Pending) => self.need(false, Reject::OpenNode, place),
-            Node::Closed(Leaf::Fixed) => self.check_fixed(sides, place),
+            Node::Closed(Leaf::Fixed) => self.check_fixed(alloc, sides, place),
         }
     }
 
     /// Checks a leaf whose box is said to have one world.
-    fn check_fixed(&self, sides: &[Bounds], place: u32) -> Result<(), CheckFault>
-        ensures { result ≡ spec.at_leaf self.now.query.now self.now.table.now self.now.best Leaf.Fixed sides.now self.now.part place }
+    fn check_fixed(&self, alloc: Global, sides: &[Bounds], place: u32) -> Result<(), CheckFault>
+        requires subject { told.IsSubject self.now.subject }
+        requires long { length sides.now ≡ length self.now.subject.columns.now }
+        ensures { told.Gives (spec.at_leaf self.now.subject.query.now self.now.subject.tables.now self.now.subject.columns.now self.now.best Leaf.Fixed sides.now self.now.part place) result }
     {
-        self.need(!has_two(sides), Reject::NotFixed, place)?;
-        let value = value_at(self.query, self.table, sides);
+        self.need(!have_two(sides), Reject::NotFixed, place)?;
+        let value = self.subject.judge(alloc, sides)?;
         self.need(!beats(self.best, value), Reject::FixedBeats, place)
     }
 
@@ -92,13 +103,6 @@ fn is_parted(sides: &[Bounds], column: u32, at: i64) -> bool
         Some(side) => side.lo <= at && at < side.hi,
         None => false,
     }
-}
-
-/// Whether a column has two values.
-fn has_two(sides: &[Bounds]) -> bool
-    ensures { result ≡ spec.have_two sides.now }
-{
-    sides.iter().any(|side| side.lo < side.hi)
 }
 
 /// Whether a value is better than the best one, or there is no best one.

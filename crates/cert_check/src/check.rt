@@ -1,66 +1,74 @@
 //! The check of an answer: whether it is valid, or its first reason.
 
-ghost use Rattle.std.specs.Prelude.{◌≡◌, ◌≤◌, ◌==◌, ◌&&◌, not, List, IfOk, MatchResult, ⊤, length};
-ghost use Rattle.std.specs.List.{All, AllZip};
+ghost use Rattle.std.specs.Prelude.{◌≡◌, ◌<◌, Ok, List, IfOk, MatchResult, ⊤, length};
+ghost use Rattle.std.specs.List.{AllZip};
 ghost use Rattle.answer_text.specs.Answers.{IsAnswer};
 ghost use Rattle.branch_tree.specs.Tree.{Tree, preorder};
-ghost use Rattle.tables_csv.specs.Tables.{HasNumbers};
-ghost use Rattle.tiql_read.specs.FirstTexts.{IsFirstQuery};
+ghost use Rattle.tables_csv.specs.QueryTables.{AreTables};
+ghost use Rattle.tiql_query.specs.WellFormed.{IsWellFormed};
+ghost use Rattle.world_def.specs.Columns.{IsSmall, columns_of};
+ghost use Rattle.world_def.specs.Judging.{IsSmallWorld};
+ghost use Rattle.world_points.specs.Points as points;
 ghost use Rattle.cert_check.specs.Checks as told;
 ghost use Rattle.cert_check.specs.Reasons as spec;
-ghost use Rattle.cert_check.specs.Valid.{IsRight, IsValid};
+ghost use Rattle.cert_check.specs.Valid.{IsRight, IsValid, NoFaults};
 
 use crate::audit::Audit;
 use crate::fault::{CheckFault, Reject};
-use crate::part::{are_all_parts, has_choice, is_the_part};
-use crate::world::world_of;
+use crate::part::{are_all_parts, have_two, is_the_part};
+use crate::subject::Subject;
 use answer_text::{Answer, PartAnswer, Verdict, WorldText};
-use base_kit::{List, Row};
+use base_kit::List;
+use ip_rows::Bounds;
 use std::alloc::Global;
-use tiql_read::FirstQuery;
-use world_def::{meets, root_of, score, value_at};
+use tiql_query::{Query, WorldColumn};
+use world_def::{Tables, World, meets, score};
+use world_points::{sides_of, worth};
 
-/// Checks an answer to a first query over the rows of its table: nothing where it is valid, else its first reason
-/// (docs/ANSWERS.md).
+/// Checks an answer to a query over its tables: nothing where it is valid, else its first reason, or the first value that
+/// is too large in a world that is judged before a reason comes (docs/ANSWERS.md).
 ///
-/// The query is one that was read, the rows are those of a first table with its columns, and the answer is one that was
-/// read. It goes once over the nodes of a tree, without recursion.
-pub fn check_first(
+/// The query is well formed and has no view, the tables are its own, the columns are those of `world_columns` for them, and
+/// the answer is one that was read. It goes once over the nodes of a tree, without recursion.
+pub fn check_listed(
     alloc: Global,
-    query: &FirstQuery,
-    rows: &List<Row>,
+    query: &Query,
+    tables: &Tables,
+    columns: &List<WorldColumn>,
     answer: &Answer,
 ) -> Result<(), CheckFault>
-    requires query { IsFirstQuery query.now }
-    requires table { All (HasNumbers (length query.now.columns)) rows.now }
-    requires few { length rows.now ≤ 100 }
+    requires made { columns_of query.now tables.now ≡ Ok columns.now }
+    requires small { IsSmall query.now tables.now }
+    requires count { length query.now.requires_ < 4294967295 }
+    requires tables { AreTables query.now tables.now }
+    requires fit { IsWellFormed query.now }
     requires answer { IsAnswer answer.now }
 
-    // The first reason is told, with its part and node.
-    ensures reason { spec.Tells query.now rows.now answer.now result }
+    // The first reason is told, with its part and node, and so is a value that is too large.
+    ensures reason { spec.Tells query.now tables.now columns.now answer.now result }
 
-    // An answer is accepted exactly where it is valid, unless memory is wanting.
-    ensures valid { IfOk result (λ _. IsValid query.now rows.now answer.now) }
-    ensures accepted { IsValid query.now rows.now answer.now → MatchResult result (λ _. ⊤) (λ fault. fault ≡ CheckFault.Memory) }
+    // An answer that is accepted is valid, and a valid one is accepted where no judged world has a value that is too large,
+    // unless memory is wanting.
+    ensures valid { IfOk result (λ _. IsValid query.now tables.now columns.now answer.now) }
+    ensures accepted { IsValid query.now tables.now columns.now answer.now → NoFaults query.now tables.now columns.now answer.now.verdict
+        → MatchResult result (λ _. ⊤) (λ fault. fault ≡ CheckFault.Memory) }
 
     // What an accepted answer says is right, whoever wrote it.
-    ensures right { IfOk result (λ _. IsRight query.now rows.now answer.now.verdict) }
+    ensures right { IfOk result (λ _. IsRight query.now tables.now answer.now.verdict) }
 {
-    check_answer(alloc, query, rows.as_slice(), answer)
+    let subject = Subject {
+        query,
+        tables,
+        columns,
+    };
+    check_answer(alloc, &subject, answer)
 }
 
-/// Checks an answer over the rows of the table.
-fn check_answer(
-    alloc: Global,
-    query: &FirstQuery,
-    table: &[Row],
-    answer: &Answer,
-) -> Result<(), CheckFault>
-    requires query { IsFirstQuery query.now }
-    requires table { All (HasNumbers (length query.now.columns)) table.now }
-    requires few { length table.now ≤ 100 }
+/// Checks an answer.
+fn check_answer(alloc: Global, subject: &Subject, answer: &Answer) -> Result<(), CheckFault>
+    requires subject { told.IsSubject subject.now }
     requires answer { IsAnswer answer.now }
-    ensures { spec.Tells query.now table.now answer.now result }
+    ensures { spec.Tells subject.now.query.now subject.now.tables.now subject.now.columns.now answer.now result }
 {
     match &answer.verdict {
         Verdict::Optimal {
@@ -69,22 +77,15 @@ fn check_answer(
             parts,
         } => {
             check_program(answer)?;
-            check_optimal(
-                alloc,
-                query,
-                table,
-                *objective,
-                worlds.as_slice(),
-                parts.as_slice(),
-            )
+            check_optimal(alloc, subject, *objective, worlds, parts.as_slice())
         }
         Verdict::FalseRow { row } => {
             check_program(answer)?;
-            check_row(alloc, query, table, *row)
+            check_row(alloc, subject, *row)
         }
         Verdict::NoWorld { part } => {
             check_program(answer)?;
-            check_no_world(alloc, query, table, part)
+            check_no_world(alloc, subject, part)
         }
         Verdict::Unfinished { .. } => need(false, Reject::Unfinished),
     }
@@ -118,82 +119,88 @@ fn check_program(answer: &Answer) -> Result<(), CheckFault>
 /// Checks an optimal answer.
 fn check_optimal(
     alloc: Global,
-    query: &FirstQuery,
-    table: &[Row],
+    subject: &Subject,
     objective: i64,
-    worlds: &[WorldText],
+    worlds: &List<WorldText>,
     parts: &[PartAnswer],
 ) -> Result<(), CheckFault>
-    requires query { IsFirstQuery query.now }
-    requires table { All (HasNumbers (length query.now.columns)) table.now }
-    requires few { length table.now ≤ 100 }
-    ensures { told.TellsOptimal query.now table.now objective worlds.now parts.now result }
+    requires { told.IsSubject subject.now }
+    ensures { told.TellsOptimal subject.now.query.now subject.now.tables.now subject.now.columns.now objective worlds.now parts.now result }
 {
-    let Some(world) = world_of(alloc, query, table, worlds)? else {
+    let Some(world) = subject.given(alloc, worlds)? else {
         return need(false, Reject::WrongWorld);
     };
-    need(meets(query, world.as_slice()), Reject::WorldBreaks)?;
-    let value = score(query, world.as_slice());
+    let best = check_world(subject, objective, &world)?;
+    check_parts(alloc, subject, Some(best), parts)
+}
+
+/// Checks that a world meets and has the objective as its score. It gives what the world is worth.
+#[tactic(auto, unfolding(crate::specs::Reasons::worth_of))]
+fn check_world(subject: &Subject, objective: i64, world: &World) -> Result<i128, CheckFault>
+    requires subject { told.IsSubject subject.now }
+    requires small { IsSmallWorld subject.now.tables.now world.now }
+    ensures { result ≡ spec.worth_of subject.now.query.now subject.now.tables.now objective world.now }
+{
+    let broken = meets(subject.query, subject.tables, world)?;
+    need(broken.is_none(), Reject::WorldBreaks)?;
+    let value = score(subject.query, subject.tables, world)?;
     need(i128::from(objective) == value, Reject::WrongObjective)?;
-    need(are_all_parts(query, table, parts), Reject::WrongParts)?;
-    check_parts(alloc, query, table, Some(value), parts)
+    Ok(worth(&subject.query.aim, value))
 }
 
 /// Checks an impossible answer with a row.
-fn check_row(alloc: Global, query: &FirstQuery, table: &[Row], row: u32) -> Result<(), CheckFault>
-    ensures { told.Gives (spec.unless (spec.is_false_row query.now table.now row) Reject.RowHolds 0 0) result }
+fn check_row(alloc: Global, subject: &Subject, row: u32) -> Result<(), CheckFault>
+    requires { told.IsSubject subject.now }
+    ensures { told.Gives (spec.of_row subject.now.query.now subject.now.tables.now subject.now.columns.now row) result }
 {
-    if row != 0 || has_choice(query, table) {
-        return need(false, Reject::RowHolds);
-    }
-    let root = root_of(alloc, query, table)?;
-    need(
-        value_at(query, table, root.as_slice()).is_none(),
-        Reject::RowHolds,
-    )
+    let root = sides_of(alloc, subject.columns.as_slice())?;
+    need(row == 0 && !have_two(root.as_slice()), Reject::RowHolds)?;
+    let value = subject.judge(alloc, root.as_slice())?;
+    need(value.is_none(), Reject::RowHolds)
 }
 
 /// Checks an impossible answer with a part.
-fn check_no_world(
-    alloc: Global,
-    query: &FirstQuery,
-    table: &[Row],
-    part: &PartAnswer,
-) -> Result<(), CheckFault>
-    ensures { (tree : Tree) → part.now.tree ≡ preorder tree → told.Gives (told.of_part query.now table.now part.now tree) result }
+fn check_no_world(alloc: Global, subject: &Subject, part: &PartAnswer) -> Result<(), CheckFault>
+    requires { told.IsSubject subject.now }
+    ensures { (tree : Tree) → part.now.tree ≡ preorder tree → told.Gives (told.of_part subject.now.query.now subject.now.tables.now subject.now.columns.now part.now tree) result }
 {
+    let root = sides_of(alloc, subject.columns.as_slice())?;
     need(
-        has_choice(query, table) && is_the_part(table, part),
+        have_two(root.as_slice()) && is_the_part(root.as_slice(), part),
         Reject::WrongParts,
     )?;
-    check_part(alloc, query, table, None, part)
+    check_part(alloc, subject, root, None, part)
 }
 
-/// Checks one part after another against a best value.
+/// Checks the parts against a best value.
 fn check_parts(
     alloc: Global,
-    query: &FirstQuery,
-    table: &[Row],
+    subject: &Subject,
     best: Option<i128>,
     parts: &[PartAnswer],
 ) -> Result<(), CheckFault>
-    ensures { (trees : List Tree) → AllZip (λ part tree. part.tree ≡ preorder tree) parts.now trees → told.Gives (spec.in_parts query.now table.now best parts.now trees) result }
+    requires { told.IsSubject subject.now }
+    ensures { (trees : List Tree) → AllZip (λ part tree. part.tree ≡ preorder tree) parts.now trees → told.Gives (spec.of_parts subject.now.query.now subject.now.tables.now subject.now.columns.now best parts.now trees) result }
 {
-    for part in parts {
-        check_part(alloc, query, table, best, part)?;
+    let root = sides_of(alloc, subject.columns.as_slice())?;
+    need(are_all_parts(root.as_slice(), parts), Reject::WrongParts)?;
+    match parts {
+        [part] => check_part(alloc, subject, root, best, part),
+        _ => Ok(()),
     }
-    Ok(())
 }
 
-/// Checks a part against a best value.
+/// Checks a part with this box against a best value.
 fn check_part(
     alloc: Global,
-    query: &FirstQuery,
-    table: &[Row],
+    subject: &Subject,
+    root: List<Bounds>,
     best: Option<i128>,
     part: &PartAnswer,
 ) -> Result<(), CheckFault>
-    ensures { (tree : Tree) → part.now.tree ≡ preorder tree → told.Gives (spec.in_part query.now table.now best part.now tree) result }
+    requires subject { told.IsSubject subject.now }
+    requires root { root ≡ points.root subject.now.columns.now }
+    ensures { (tree : Tree) → part.now.tree ≡ preorder tree → told.Gives (spec.in_part subject.now.query.now subject.now.tables.now subject.now.columns.now best part.now tree) result }
 {
     if part.best != best {
         return Err(CheckFault::Rejected {
@@ -203,10 +210,9 @@ fn check_part(
         });
     }
     let audit = Audit {
-        query,
-        table,
+        subject: *subject,
         best,
         part: part.number,
     };
-    audit.check_tree(alloc, root_of(alloc, query, table)?, &part.tree)
+    audit.check_tree(alloc, root, &part.tree)
 }

@@ -3,9 +3,13 @@
 ghost use Rattle.std.specs.Prelude.{◌≡◌};
 ghost use Rattle.cert_check.specs.declared.fault.CheckFault.{CheckFault};
 ghost use Rattle.cert_check.specs.declared.fault.CheckFault.TheVariants as fault;
+ghost use Rattle.cert_check.specs.Faults as spec;
 
 use base_kit::Memory;
 use thiserror::Error;
+use tiql_query::Source;
+use world_def::EvalFault;
+use world_points::PointFault;
 
 /// A reason for which an answer is refused, in the order in which they are tried (docs/ANSWERS.md).
 #[derive(Clone, Copy, Debug, PartialEq, Eq)]
@@ -47,6 +51,14 @@ pub enum CheckFault {
         part: u32,
         node: u32,
     },
+    /// A world that has to be judged has a value of more than 10^17 in size (docs/MEANING.md, "The number told").
+    #[error("a value passes 10^17 in size")]
+    Wide {
+        /// The relation whose condition or goal asked for it.
+        source: Source,
+        /// The value.
+        number: i128,
+    },
     /// There was not enough memory.
     #[error("out of memory")]
     Memory,
@@ -57,5 +69,26 @@ impl From<Memory> for CheckFault {
 
     fn from(_fault: Memory) -> CheckFault {
         CheckFault::Memory
+    }
+}
+
+impl From<EvalFault> for CheckFault {
+    ghost from_gives = { λ wide told. told ≡ spec.as_told wide };
+
+    fn from(wide: EvalFault) -> CheckFault {
+        match wide {
+            EvalFault::Wide { source, number } => CheckFault::Wide { source, number },
+        }
+    }
+}
+
+impl From<PointFault> for CheckFault {
+    ghost from_gives = { λ cause told. told ≡ spec.of_point cause };
+
+    fn from(cause: PointFault) -> CheckFault {
+        match cause {
+            PointFault::Eval(wide) => CheckFault::from(wide),
+            PointFault::Memory => CheckFault::Memory,
+        }
     }
 }

@@ -5,8 +5,8 @@ mod audit;
 mod check;
 mod fault;
 mod part;
+mod subject;
 mod walk;
-mod world;
 
-pub use check::check_first;
+pub use check::check_listed;
 pub use fault::{CheckFault, Reject};

@@ -23,9 +23,9 @@ use Rattle.answer_text.specs.declared.answer.PartAnswer.{PartAnswer}
 use Rattle.answer_text.specs.declared.answer.Verdict.{Verdict}
 use Rattle.answer_text.specs.declared.answer.Verdict.TheVariants as verdict
 use Rattle.answer_text.specs.declared.answer.WorldText.{WorldText}
-use Rattle.answer_check.specs.Parts.{open_from}
-use Rattle.answer_check.specs.Reasons.{is_finished}
-use Rattle.answer_check.specs.Valid as valid
+use Rattle.cert_check.specs.Parts.{open_from}
+use Rattle.cert_check.specs.Reasons.{is_finished}
+use Rattle.cert_check.specs.Valid as valid
 use Rattle.world_listing.specs.Faults.{NoFault, fault_of, first_fault, or_later}
 use Rattle.world_listing.specs.Parts as told
 use Rattle.listed_audit.proofs.Sections.{rows_read}

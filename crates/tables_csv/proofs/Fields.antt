@@ -1,17 +1,12 @@
 -- the fields of a record, by their places
-use Rattle.std.proofs.Common.{◌≡◌, ◌∙◌, ◌+◌, ◌<◌, ◌≤◌, ◌++◌, ℕ, zero, suc, Bool, true, false, not, List, [], ◌∷◌, Option, Some, None, Bor, ap, sym, subst, arith, length, get_or, take}
+use Rattle.std.proofs.Common.{◌≡◌, ◌∙◌, ◌+◌, ◌<◌, ◌≤◌, ℕ, zero, suc, Bool, true, false, not, List, [], ◌∷◌, Option, Some, None, Bor, ap, sym, arith, length, get_or, take}
 use Rattle.std.proofs.lemmas.Bool.{false≢true}
-use Rattle.std.proofs.lemmas.List.{get_or_read, take_all, take_more_same}
+use Rattle.std.proofs.lemmas.List.{get_or_read, take_more_same}
 use Rattle.std.proofs.lemmas.Slice.Eq.{bytes_eq-Decides}
 use Rattle.std.specs.Cmp.Lexicographic.{pointwise}
-use Rattle.std.specs.List.{AllZip}
 use Rattle.std.specs.Option.{option_eq}
-use Rattle.std.specs.Prelude.{ℤ, nat_eq, option_map}
+use Rattle.std.specs.Prelude.{nat_eq, option_map}
 use Rattle.csv.specs.Records.{field_at}
-use Rattle.base_kit.specs.declared.value.Value.{Value}
-use Rattle.base_kit.specs.declared.value.Value.TheVariants.{Int, Text}
-use Rattle.tables_csv.specs.Numbers.{Spells}
-use Rattle.tables_csv.specs.Tables.{IsField}
 
 -- a field that is there
 pub field_there : (fields : List (List ℕ)) (i : ℕ) (field : List ℕ) → field_at fields i ≡ Some field → (i < length fields) × (field ≡ get_or fields i field)
@@ -61,36 +56,3 @@ same_names fields names i found bytes test name at is false_test there read here
     let equal : option_eq (λ (x y : Bor (List ℕ)). pointwise nat_eq x.now y.now) found (Some bytes) ≡ true = grind arith in
     let field = field_there fields i bytes.now ((compared found bytes (field_at fields i) at).0 equal) in
     take_more_same fields names i name field.0 there front (sym (get_or_read fields i bytes.now field.0 field.1 name) ∙ read ∙ here)
-
--- one more item on each side
-zip_more : {A B : Type 0} (R : A → B → Type 0) (xs : List A) (ys : List B) (i : ℕ) (x : A) (y : B) → i < length xs → x ≡ get_or xs i x → AllZip R (take i xs) ys
-    → R x y → AllZip R (take (suc i) xs) (ys ++ y ∷ [])
-zip_more R [] ys i x y there is front holds = absurd (omega arith)
-zip_more {A} {B} R (first ∷ rest) [] zero x y there is front holds = (subst (λ (a : A). R a y) is holds, tt)
-zip_more R (first ∷ rest) (other ∷ others) zero x y there is front holds = absurd front
-zip_more R (first ∷ rest) [] (suc i) x y there is front holds = absurd front
-zip_more R (first ∷ rest) (other ∷ others) (suc i) x y there is front holds = (front.0, zip_more R rest others i x y (omega arith) is front.1 holds)
-
--- one more field that spells the value at its place
-pub fields_more : (fields : List (List ℕ)) (i j : ℕ) (field : List ℕ) (row more : List Value) (number : ℤ) → ◌≡◌ {A = Option (List ℕ)} (Some field) (field_at fields i)
-    → j ≡ i + 1 → AllZip IsField (take i fields) row → Spells field number → more ≡ row ++ Int number ∷ [] → AllZip IsField (take j fields) more
-fields_more fields i j field row more number at next front spells pushed =
-    let there = field_there fields i field (sym at) in
-    let after : j ≡ suc i = omega arith in
-    rw (after, pushed) (zip_more IsField fields row i field (Int number) there.0 there.1 front spells)
-
--- all fields
-pub fields_end : (fields : List (List ℕ)) (i : ℕ) (row : List Value) → ◌≡◌ {A = Option (List ℕ)} None (field_at fields i) → AllZip IsField (take i fields) row
-    → AllZip IsField fields row
-fields_end fields i row gone front = rw (take_all i fields (field_gone fields i (sym gone))) at front
-
--- a field that spells no number
-pub fields_stuck : (fields : List (List ℕ)) (i : ℕ) (field : List ℕ) → ◌≡◌ {A = Option (List ℕ)} (Some field) (field_at fields i)
-    → ((number : ℤ) → Spells field number → ⊥) → (row : List Value) → AllZip IsField fields row → ⊥
-unfolding field_at
-fields_stuck [] i field at none row each = cc
-fields_stuck (first ∷ rest) i field at none [] each = each
-fields_stuck (first ∷ rest) zero field at none (Int number ∷ more) each =
-    let same : first ≡ field = cc in none number (rw same at each.0)
-fields_stuck (first ∷ rest) zero field at none (Text text ∷ more) each = each.0
-fields_stuck (first ∷ rest) (suc i) field at none (value ∷ more) each = fields_stuck rest i field at none more each.1

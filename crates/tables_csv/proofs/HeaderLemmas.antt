@@ -1,5 +1,5 @@
 -- the names of columns, by their places
-use Rattle.std.proofs.Common.{◌≡◌, ◌∙◌, ◌<◌, ◌≤◌, ℕ, List, ap, sym, arith, length, get_or}
+use Rattle.std.proofs.Common.{◌≡◌, ◌∙◌, ◌<◌, ℕ, List, ap, sym, arith, length, get_or}
 use Rattle.std.proofs.lemmas.List.{get_or-map, length-map}
 use Rattle.tiql_query.specs.declared.relation.Column.{Column}
 use Rattle.tables_csv.specs.WholeTables.{names_of}
@@ -9,6 +9,3 @@ name_at columns i column there is = ap (λ (c : Column). c.name) is ∙ sym (get
 
 pub name_there : (columns : List Column) (i : ℕ) → i < length columns → i < length (names_of columns)
 name_there columns i there = let size = length-map columns (λ (c : Column). c.name) in omega arith
-
-pub names_end : (columns : List Column) (i : ℕ) → length columns ≤ i → length (names_of columns) ≤ i
-names_end columns i end = let size = length-map columns (λ (c : Column). c.name) in omega arith

@@ -1,6 +1,5 @@
 mod ChainLemmas
 pub mod Fields
-pub mod FirstTables
 mod HeaderLemmas
 mod KeyLemmas
 pub mod Lines
@@ -11,9 +10,7 @@ pub mod Plain
 pub mod QueryTables
 pub mod Readings
 mod Refusals
-pub mod Rows
 mod TableRows
 mod ValueLemmas
 mod WholeReading
 mod WholeWritten
-pub mod Written

@@ -1,7 +1,7 @@
 -- lines of a table: what `csv` writes of fields without marks, and reads of it
-use Rattle.std.proofs.Common.{◌≡◌, ◌∙◌, ◌+◌, ◌*◌, ◌<◌, ◌≤◌, ◌++◌, ℕ, suc, false, List, [], ◌∷◌, Some, ap, refl, arith, length, get_or, take}
+use Rattle.std.proofs.Common.{◌≡◌, ◌∙◌, ◌+◌, ◌<◌, ◌++◌, ℕ, suc, false, List, [], ◌∷◌, Some, ap, refl, arith, length, get_or, take}
 use Rattle.std.proofs.lemmas.Bool.{ne_eqb}
-use Rattle.std.proofs.lemmas.List.{append-nil, length-append, take_more}
+use Rattle.std.proofs.lemmas.List.{append-nil, take_more}
 use Rattle.std.specs.List.{flat_map, join_with_byte, list_any}
 use Rattle.csv.proofs.RoundTrip.{read-write}
 use Rattle.csv.specs.Machine.{next_record}
@@ -9,55 +9,43 @@ use Rattle.csv.specs.Reading.{AreRecords, default_config}
 use Rattle.csv.specs.Writing.{default_writer, field_text, fields_text, is_blank, needs_byte, row_text}
 use Rattle.csv.specs.declared.parser.State.TheVariants as state
 use Rattle.tables_csv.proofs.Readings.{records_cons, records_end}
-use Rattle.tables_csv.specs.Texts.{line}
 
--- the field is not empty, is at most so long, and has no comma, quote or line mark
-pub record IsPlain (most : ℕ) (field : List ℕ) : Type 0 where
+-- the fields with a comma between each two, and LF
+abbrev pub line : List (List ℕ) → List ℕ
+line fields = join_with_byte 44 fields ++ 10 ∷ []
+
+-- the field is not empty, and has no comma, quote or line mark
+pub record IsPlain (field : List ℕ) : Type 0 where
   pub some : 0 < length field
   pub unmarked : list_any (needs_byte default_writer) field ≡ false
-  pub short : length field ≤ most
 
 -- each of the fields is so
-abbrev pub ArePlain : ℕ → List (List ℕ) → Type 0
-ArePlain most [] = Unit {0}
-ArePlain most (field ∷ fields) = IsPlain most field × ArePlain most fields
+abbrev pub ArePlain : List (List ℕ) → Type 0
+ArePlain [] = Unit {0}
+ArePlain (field ∷ fields) = IsPlain field × ArePlain fields
 
-plain_text : (most : ℕ) (field : List ℕ) → IsPlain most field → field_text default_writer field ≡ field
-plain_text most field plain = rw plain.unmarked refl
+plain_text : (field : List ℕ) → IsPlain field → field_text default_writer field ≡ field
+plain_text field plain = rw plain.unmarked refl
 
 -- what is written of the fields of a record
-plain_body : (most : ℕ) (first : List ℕ) (rest : List (List ℕ)) → ArePlain most (first ∷ rest)
+plain_body : (first : List ℕ) (rest : List (List ℕ)) → ArePlain (first ∷ rest)
     → field_text default_writer first ++ fields_text default_writer rest ≡ join_with_byte 44 (first ∷ rest)
 unfolding fields_text
-plain_body most first [] plain = rw (plain_text most first plain.0) (append-nil first)
-plain_body most first (next ∷ rest) plain =
-    rw (plain_text most first plain.0) (ap (λ (l : List ℕ). first ++ 44 ∷ l) (plain_body most next rest plain.1))
+plain_body first [] plain = rw (plain_text first plain.0) (append-nil first)
+plain_body first (next ∷ rest) plain =
+    rw (plain_text first plain.0) (ap (λ (l : List ℕ). first ++ 44 ∷ l) (plain_body next rest plain.1))
 
-full : (most : ℕ) (first : List ℕ) (rest : List (List ℕ)) → IsPlain most first → is_blank default_writer (first ∷ rest) ≡ false
+full : (first : List ℕ) (rest : List (List ℕ)) → IsPlain first → is_blank default_writer (first ∷ rest) ≡ false
 unfolding is_blank
-full most [] [] plain = absurd (omega (arith, plain.some))
-full most (byte ∷ bytes) [] plain = rw (plain_text most (byte ∷ bytes) plain) (ne_eqb (suc (length bytes)) 0 (λ e. cc e))
-full most first (next ∷ rest) plain = refl
+full [] [] plain = absurd (omega (arith, plain.some))
+full (byte ∷ bytes) [] plain = rw (plain_text (byte ∷ bytes) plain) (ne_eqb (suc (length bytes)) 0 (λ e. cc e))
+full first (next ∷ rest) plain = refl
 
 -- a record of plain fields is a line
-pub plain_line : (most : ℕ) (fields : List (List ℕ)) → 0 < length fields → ArePlain most fields → row_text default_writer fields ≡ line fields
-plain_line most [] some plain = absurd (omega arith)
-plain_line most (first ∷ rest) some plain =
-    rw (full most first rest plain.0) (ap (λ (l : List ℕ). l ++ 10 ∷ []) (plain_body most first rest plain))
-
--- a line's length
-line_size : (most : ℕ) (first : List ℕ) (rest : List (List ℕ)) → ArePlain most (first ∷ rest)
-    → length (join_with_byte 44 (first ∷ rest)) + 1 ≤ (most + 1) * length (first ∷ rest)
-line_size most first [] plain = let short = plain.0.short in omega arith
-line_size most first (next ∷ rest) plain =
-    let short = plain.0.short in let more = line_size most next rest plain.1 in
-    let size = length-append first (44 ∷ join_with_byte 44 (next ∷ rest)) in
-    omega arith
-
-pub length-line : (most : ℕ) (fields : List (List ℕ)) → 0 < length fields → ArePlain most fields → length (line fields) ≤ (most + 1) * length fields
-length-line most [] some plain = absurd (omega arith)
-length-line most (first ∷ rest) some plain =
-    let size = length-append (join_with_byte 44 (first ∷ rest)) (10 ∷ []) in let more = line_size most first rest plain in omega arith
+pub plain_line : (fields : List (List ℕ)) → 0 < length fields → ArePlain fields → row_text default_writer fields ≡ line fields
+plain_line [] some plain = absurd (omega arith)
+plain_line (first ∷ rest) some plain =
+    rw (full first rest plain.0) (ap (λ (l : List ℕ). l ++ 10 ∷ []) (plain_body first rest plain))
 
 -- a record is the first one of a text that begins with what is written of it
 row_read : (first : List ℕ) (rest : List (List ℕ)) (tail : List ℕ)

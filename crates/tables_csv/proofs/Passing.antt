@@ -1,8 +1,8 @@
 -- the records that a reader goes past
-use Rattle.std.proofs.Common.{◌≡◌, ◌∙◌, ◌++◌, ℕ, Bool, true, false, List, [], ◌∷◌, Option, Some, Bor, ap, refl, subst, sym}
+use Rattle.std.proofs.Common.{◌≡◌, ◌∙◌, ◌++◌, ℕ, Bool, true, false, List, [], ◌∷◌, Option, Some, Bor, ap, refl, subst, sym, inl}
 use Rattle.csv.proofs.ReadFacts.{reached-more, rows-end, rows-more}
 use Rattle.csv.specs.Machine.{Read, next_record}
-use Rattle.csv.specs.Reading.{Reached, ReadRecord, default_config, reader_state}
+use Rattle.csv.specs.Reading.{Reached, ReadRecord, default_config, reader_state, took_first}
 use Rattle.csv.specs.declared.parser.State.{State}
 use Rattle.csv.specs.declared.reader.Reader.{Reader}
 use Rattle.tables_csv.proofs.Readings.{records_end, records_ended}
@@ -13,12 +13,15 @@ pub same_some : {A : Type 0} (a b : A) → ◌≡◌ {A = Option A} (Some a) (So
 same_some a b e = cc
 
 -- what a read does to an open reader
-pub passes : (old new : Reader (Bor (List ℕ))) (found : Bool) (fields : List (List ℕ)) → IsOpen old → ReadRecord slice_bytes old new found fields → Passes old new found fields
+pub passes : (old new : Reader (Bor (List ℕ))) (found : Bool) (fields : List (List ℕ)) → IsOpen old → ReadRecord slice_bytes old new found fields
+    → took_first new ≡ true → Passes old new found fields
 unfolding Reached
-passes old new true fields reader read =
-    let m = rows-more slice_bytes old new fields default_config (reader_state old) reader.bytes reader.bytes [] reader.config reader.source (refl, refl) read in
-    record { from = reader.bytes; to = m.0; source = reader.source; left = m.1; reached = m.2 }
-passes old new false fields reader read = record {
+passes old new true fields reader read took =
+    let m = rows-more slice_bytes old new fields default_config (reader_state old) reader.bytes reader.bytes [] reader.config reader.source (refl, refl) read in (
+      record { bytes = m.0; source = m.1; config = read.2 ∙ reader.config; trim = read.3 ∙ reader.trim; ready = inl took },
+      record { from = reader.bytes; to = m.0; source = reader.source; left = m.1; reached = m.2 },
+    )
+passes old new false fields reader read took = record {
   bytes = reader.bytes;
   source = reader.source;
   all = records_end default_config (reader_state old) reader.bytes (rows-end slice_bytes old new fields default_config reader.bytes reader.config reader.source read);

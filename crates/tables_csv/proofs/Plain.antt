@@ -1,8 +1,8 @@
--- names and numbers are plain fields
+-- names are plain fields, and the digits of a number spell it
 use Rattle.std.proofs.Common.{◌≡◌, ◌≢◌, ◌⊎◌, ◌∙◌, ◌-◌, ◌^◌, ◌<◌, ◌≤◌, ◌==◌, ◌&&◌, ℕ, zero, suc, true, false, List, [], ◌∷◌, ap, inl, inr, refl, sym, arith, length, get_or, leb, reverse, IsTrue}
 use Rattle.std.specs.Prelude.{ℤ, pos, negsuc, neg_ℤ, unsigned_abs}
-use Rattle.std.proofs.lemmas.Bool.{and_parts, false≢true, leb-true, ne_eqb}
-use Rattle.std.proofs.lemmas.Fmt.{decimal_is_IsNumeral, length_signed_le}
+use Rattle.std.proofs.lemmas.Bool.{and_parts, false≢true, ne_eqb}
+use Rattle.std.proofs.lemmas.Fmt.{decimal_is_IsNumeral}
 use Rattle.std.proofs.lemmas.List.{get_or-reverse, reverse-reverse}
 use Rattle.std.proofs.lemmas.Str.Parse.{digit_at}
 use Rattle.std.specs.Fmt.{decimal, signed_decimal}
@@ -17,13 +17,6 @@ use Rattle.tables_csv.specs.Numbers.{Spells, after_spaces, bare, before_spaces}
 -- a byte that `csv` sets no quotes for
 plain_byte : (b : ℕ) → b ≢ 44 → b ≢ 34 → b ≢ 13 → b ≢ 10 → needs_byte default_writer b ≡ false
 plain_byte b comma quote return feed = rw (ne_eqb b 44 comma, ne_eqb b 34 quote, ne_eqb b 13 return, ne_eqb b 10 feed) refl
-
-plain_bytes : (bytes : List ℕ) → ((i : ℕ) → i < length bytes → needs_byte default_writer (get_or bytes i 0) ≡ false)
-    → list_any (needs_byte default_writer) bytes ≡ false
-plain_bytes [] each = refl
-plain_bytes (b ∷ bytes) each =
-    let first : needs_byte default_writer b ≡ false = each 0 (omega arith) in
-    rw first (plain_bytes bytes (λ i there. each (suc i) (omega arith)))
 
 -- ---- names
 
@@ -48,14 +41,14 @@ name_rest (b ∷ bytes) is =
     let p = and_parts (continues_name b) (list_all continues_name bytes) is in rw (name_byte b p.0) (name_rest bytes p.1)
 
 -- a name is plain
-pub name_plain : (name : List ℕ) → IsTrue (is_name name) → IsPlain 64 name
+pub name_plain : (name : List ℕ) → IsTrue (is_name name) → IsPlain name
 unfolding is_name
 name_plain [] is = absurd (false≢true is)
 name_plain (b ∷ bytes) is =
     let most = and_parts (is_word (b ∷ bytes) && leb (length (b ∷ bytes)) 64) _ is in
     let word = and_parts (is_word (b ∷ bytes)) (leb (length (b ∷ bytes)) 64) most.0 in
     let parts = and_parts (starts_name b) (list_all continues_name bytes) word.0 in
-    record { some = omega arith; unmarked = rw (first_byte b parts.0) (name_rest bytes parts.1); short = leb-true (length (b ∷ bytes)) 64 word.1 }
+    record { some = omega arith; unmarked = rw (first_byte b parts.0) (name_rest bytes parts.1) }
 
 -- and begins with no byte order mark
 pub name_front : (name : List ℕ) → IsTrue (is_name name) → get_or name 0 0 ≢ 239
@@ -78,27 +71,9 @@ number_byte (pos n) small i there = inr (digit_at (decimal n) i (decimal_is_IsNu
 number_byte (negsuc n) small zero there = inl refl
 number_byte (negsuc n) small (suc i) there = inr (digit_at (decimal (suc n)) i (decimal_is_IsNumeral (suc n) (omega arith)).0.1 (omega arith))
 
-plain_number_byte : (b : ℕ) → IsNumberByte b → needs_byte default_writer b ≡ false
-plain_number_byte b (inl minus) = rw minus refl
-plain_number_byte b (inr digit) = plain_byte b (λ e. absurd (omega arith)) (λ e. absurd (omega arith)) (λ e. absurd (omega arith)) (λ e. absurd (omega arith))
-
 number_some : (z : ℤ) → unsigned_abs z < 2 ^ 63 → 0 < length (signed_decimal z)
 number_some (pos n) small = (decimal_is_IsNumeral n (omega arith)).0.0
 number_some (negsuc n) small = omega arith
-
-number_short : (z : ℤ) → unsigned_abs z ≤ 10 ^ 15 → length (signed_decimal z) ≤ 17
-number_short (pos n) small = length_signed_le 16 (pos n) (omega arith) (omega arith)
-number_short (negsuc n) small = length_signed_le 16 (negsuc n) (omega arith) (omega arith)
-
--- a number of a table is plain
-pub number_plain : (z : ℤ) → unsigned_abs z ≤ 10 ^ 15 → IsPlain 17 (signed_decimal z)
-number_plain z small =
-    let within : unsigned_abs z < 2 ^ 63 = omega arith in
-    record {
-      some = number_some z within;
-      unmarked = plain_bytes (signed_decimal z) (λ i there. plain_number_byte (get_or (signed_decimal z) i 0) (number_byte z within i there));
-      short = number_short z small;
-    }
 
 -- a text with no space at either end is bare
 after_none : (text : List ℕ) → get_or text 0 0 ≢ 32 → after_spaces text ≡ text

@@ -1,15 +1,12 @@
--- the records of a text, one after another, and what a read of one leaves
-use Rattle.std.proofs.Common.{◌≡◌, ◌↔◌, ◌∙◌, ℕ, Bool, true, false, List, [], ◌∷◌, Option, Some, None, Bor, ap, refl, subst, sym, inl}
+-- the records of a text, one after another
+use Rattle.std.proofs.Common.{◌≡◌, ◌∙◌, ℕ, Bool, true, false, List, [], ◌∷◌, Some, None, ap, refl, subst, sym}
 use Rattle.std.proofs.Common.{◌==◌, ◌&&◌, cond}
 use Rattle.std.proofs.lemmas.Bool.{and_parts, eqb-true, false≢true}
-use Rattle.csv.proofs.ReadFacts.{rows-end, rows-more}
 use Rattle.csv.specs.Machine.{Read, next_record}
-use Rattle.csv.specs.Reading.{AreRecords, Reached, ReadRecord, default_config, is_bom, reader_state, source_of, strip_bom, took_first}
+use Rattle.csv.specs.Reading.{AreRecords, Reached, is_bom, strip_bom}
 use Rattle.csv.specs.declared.parser.Config.{Config}
 use Rattle.csv.specs.declared.parser.State.{State}
-use Rattle.csv.specs.declared.reader.Reader.{Reader}
-use Rattle.tables_csv.specs.Tables.{is_marked}
-use Rattle.tables_csv.specs.Records.{HasLeft, IsOpen, Takes, slice_bytes}
+use Rattle.tables_csv.specs.WholeTables.{is_marked}
 
 -- where a text has a first record, its records are that one and then those after it
 pub records_more : (cfg : Config) (s : State) (xs : List ℕ) (first : Read) (records : List (List (List ℕ))) → next_record cfg s [] [] xs ≡ Some first
@@ -60,65 +57,6 @@ records_one cfg s xs (fields ∷ rest) others all also =
     let tail = records_one cfg first.1 first.2 rest more.0 (all.0, all.1, all.2.3, all.3) more.2 in
     let whole = more.1 in
     cc
-
--- the records left, from the bytes that the reader is known to have
-left_of : (reader : Reader (Bor (List ℕ))) (records : List (List (List ℕ))) (bytes : List ℕ) → source_of slice_bytes reader ≡ Some bytes
-    → HasLeft reader records → AreRecords default_config (reader_state reader) bytes records
-left_of reader records bytes source left =
-    let same : left.bytes ≡ bytes = some_same left.bytes bytes (sym left.source ∙ source) in
-    subst (λ (l : List ℕ). AreRecords default_config (reader_state reader) l records) same left.all
-  where
-    some_same : (a b : List ℕ) → ◌≡◌ {A = Option (List ℕ)} (Some a) (Some b) → a ≡ b
-    some_same a b e = cc
-
--- a read that found a record
-takes_first : (old new : Reader (Bor (List ℕ))) (fields : List (List ℕ)) (xs ys : List ℕ) → source_of slice_bytes old ≡ Some xs → source_of slice_bytes new ≡ Some ys
-    → Reached default_config (reader_state old) xs (fields ∷ []) (reader_state new) ys → (records : List (List (List ℕ)))
-    → HasLeft old records ↔ ((rest : List (List (List ℕ))) × (records ≡ fields ∷ rest) × HasLeft new rest)
-unfolding Reached
-takes_first old new fields xs ys from to reached records =
-    let p = reached.0 in (
-      (λ left.
-          let more = records_more default_config (reader_state old) xs p records reached.1 (left_of old records xs from left) in (
-            more.0,
-            more.1 ∙ ap (λ (f : List (List ℕ)). f ∷ more.0) (sym reached.2),
-            record { bytes = ys; source = to; all = rw (← reached.3.0, ← reached.3.1) more.2 },
-          )),
-      (λ (rest, whole, left).
-          record {
-            bytes = xs;
-            source = from;
-            all = rw (whole, reached.2) (records_cons default_config (reader_state old) xs p rest reached.1 (rw (reached.3.0, reached.3.1) (left_of new rest ys to left)));
-          }),
-    )
-
--- what a read does to an open reader
-pub takes : (old new : Reader (Bor (List ℕ))) (found : Bool) (fields : List (List ℕ)) → IsOpen old → ReadRecord slice_bytes old new found fields
-    → took_first new ≡ true → Takes old new found fields
-unfolding Reached
-takes old new true fields reader read took =
-    let m = rows-more slice_bytes old new fields default_config (reader_state old) reader.bytes reader.bytes [] reader.config reader.source (refl, refl) read in (
-      record { bytes = m.0; source = m.1; config = read.2 ∙ reader.config; trim = read.3 ∙ reader.trim; ready = inl took },
-      takes_first old new fields reader.bytes m.0 reader.source m.1 m.2,
-    )
-takes old new false fields reader read took =
-    let none = rows-end slice_bytes old new fields default_config reader.bytes reader.config reader.source read in
-    λ records. (
-      (λ left. records_none default_config (reader_state old) reader.bytes records none (left_of old records reader.bytes reader.source left)),
-      (λ is. record {
-        bytes = reader.bytes;
-        source = reader.source;
-        all = rw is (records_end default_config (reader_state old) reader.bytes none);
-      }),
-    )
-
--- a reader at the start of a text has all its records left
-pub all_left : (reader : Reader (Bor (List ℕ))) (s : State) (bytes : List ℕ) → source_of slice_bytes reader ≡ Some bytes → reader_state reader ≡ s
-    → (records : List (List (List ℕ))) → HasLeft reader records ↔ AreRecords default_config s bytes records
-all_left reader s bytes source start records = (
-  (λ left. rw (← start) (left_of reader records bytes source left)),
-  (λ all. record { bytes = bytes; source = source; all = rw start all }),
-)
 
 -- `csv` takes nothing off a text that begins with no byte order mark
 pub unmarked_stays : (bytes : List ℕ) → is_marked bytes ≡ false → strip_bom bytes ≡ bytes

@@ -1,4 +1,4 @@
--- whole tables, from what a reader of their bytes gives
+-- tables, from what a reader of their bytes gives
 use Rattle.std.proofs.Common.{◌≡◌, ◌∙◌, ◌++◌, ℕ, true, false, List, [], ◌∷◌, Some, Bor, sym, subst, inl, inr}
 use Rattle.csv.specs.Reading.{Reached, default_config, reader_state, source_of}
 use Rattle.csv.specs.declared.parser.State.{State}
@@ -11,8 +11,7 @@ use Rattle.tables_csv.specs.declared.fault.TableFault.TheVariants as fault
 use Rattle.tables_csv.proofs.Passing.{same_some}
 use Rattle.tables_csv.specs.Passes.{GivesFault, GivesRows, LacksFirst, Passed}
 use Rattle.tables_csv.specs.Records.{slice_bytes}
-use Rattle.tables_csv.specs.Tables.{is_marked}
-use Rattle.tables_csv.specs.WholeTables.{FaultsInRecord, IsFirstFault, IsTableOf, names_of, without_mark}
+use Rattle.tables_csv.specs.WholeTables.{FaultsInRecord, IsFirstFault, IsTableOf, is_marked, names_of, without_mark}
 
 module _ (start after : Reader (Bor (List ℕ))) (bytes text : List ℕ) (table : QTable) (text_is : text ≡ without_mark bytes) (source : source_of slice_bytes start ≡ Some text)
     (begins : reader_state start ≡ state.StartRecord) where

@@ -1,22 +1,34 @@
 -- what is written of a table, and that it is read again
-use Rattle.std.proofs.Common.{◌≡◌, ◌<◌, ◌≤◌, ◌++◌, ℕ, Bool, false, cond, List, [], ◌∷◌, ap, refl, arith, drop, length, map, take, IsTrue}
-use Rattle.std.proofs.lemmas.List.{length-map, take_all}
+use Rattle.std.proofs.Common.{◌≡◌, ◌≢◌, ◌+◌, ◌<◌, ◌≤◌, ◌++◌, ℕ, Bool, false, cond, List, [], ◌∷◌, ap, append_assoc, refl, sym, arith, drop, get_or, length, map, take, IsTrue}
+use Rattle.std.proofs.lemmas.Bool.{ne_eqb}
+use Rattle.std.proofs.lemmas.List.{append-nil, length-map, map-append, take_all, take_more}
+use Rattle.std.proofs.lemmas.List.Concat.{flat_map-append}
 use Rattle.std.proofs.lemmas.List.Elements.{recursion_from_All}
-use Rattle.std.specs.List.{All, AllByRecursion, AllZip, flat_map}
+use Rattle.std.specs.List.{All, AllByRecursion, AllZip, flat_map, join_with_byte}
 use Rattle.csv.specs.Writing.{default_writer, row_text}
 use Rattle.base_kit.specs.Names.{is_name}
 use Rattle.base_kit.specs.declared.value.Value.{Value}
 use Rattle.base_kit.specs.declared.value.Value.TheVariants.{Int, Text}
 use Rattle.tiql_query.specs.declared.relation.Column.{Column}
 use Rattle.tiql_query.specs.declared.relation.QTable.{QTable}
-use Rattle.tables_csv.proofs.Lines.{AreFull, plain_line, rows_read}
-use Rattle.tables_csv.proofs.Plain.{number_spelled}
-use Rattle.tables_csv.proofs.Written.{names_plain, unmarked_line}
-use Rattle.tables_csv.specs.Tables.{is_marked}
-use Rattle.tables_csv.specs.Texts.{value_text}
+use Rattle.tables_csv.proofs.Lines.{AreFull, ArePlain, line, plain_line, rows_read}
+use Rattle.tables_csv.proofs.Plain.{name_front, name_plain, number_spelled}
 use Rattle.tables_csv.specs.Values.{AreValues, IsValue}
-use Rattle.tables_csv.specs.WholeTables.{IsTableOf, names_of, without_mark}
-use Rattle.tables_csv.specs.WholeTexts.{AreRowsOf, IsOfColumn, records_text}
+use Rattle.tables_csv.specs.WholeTables.{IsTableOf, is_marked, names_of, without_mark}
+use Rattle.tables_csv.specs.WholeTexts.{AreRowsOf, IsOfColumn, records_text, value_text}
+
+-- one more row
+pub row_added : (names : List (List ℕ)) (rows : List (List Value)) (i : ℕ) (fields : List (List ℕ)) (slice row : List Value) → fields ≡ map value_text slice
+    → slice ≡ row → i < length rows → row ≡ get_or rows i row
+    → (row_text default_writer names ++ flat_map (row_text default_writer) (map (map value_text) (take i rows))) ++ row_text default_writer fields
+    ≡ row_text default_writer names ++ flat_map (row_text default_writer) (map (map value_text) (take (i + 1) rows))
+row_added names rows i fields slice row is same there at =
+    let front = map (map value_text) (take i rows) in
+    let split : flat_map (row_text default_writer) (map (map value_text) (take (i + 1) rows))
+    ≡ flat_map (row_text default_writer) front ++ row_text default_writer (map value_text row) =
+    rw (take_more rows i row there, ← at, map-append, flat_map-append (row_text default_writer) front (map value_text row ∷ []))
+    (ap (λ (l : List ℕ). flat_map (row_text default_writer) front ++ l) (append-nil (row_text default_writer (map value_text row)))) in
+    rw (split, is, same) (append_assoc (row_text default_writer names) (flat_map (row_text default_writer) front) (row_text default_writer (map value_text row)))
 
 -- all rows
 pub all_written : (columns : List Column) (rows : List (List Value)) (i : ℕ) → length rows ≤ i
@@ -48,12 +60,32 @@ rows_some : (columns : List Column) (rows : List (List Value)) → 0 < length co
 rows_some columns [] some each = tt
 rows_some columns (row ∷ rows) some each = (row_some columns row each.0 some, rows_some columns rows some each.1)
 
+-- ---- the byte order mark
+
+names_plain : (names : List (List ℕ)) → AllByRecursion (λ name. IsTrue (is_name name)) names → ArePlain names
+names_plain [] are = tt
+names_plain (name ∷ names) are = (name_plain name are.0, names_plain names are.1)
+
+-- a line of names begins with no byte order mark
+unmarked_line : (names : List (List ℕ)) (tail : List ℕ) → AllByRecursion (λ name. IsTrue (is_name name)) names → is_marked (line names ++ tail) ≡ false
+unmarked_line [] tail named = refl
+unmarked_line (name ∷ names) tail named = by_name name names (name_front name named.0) (name_plain name named.0).some
+  where
+    by_byte : (b : ℕ) (bytes : List ℕ) → b ≢ 239 → is_marked (b ∷ bytes) ≡ false
+    by_byte b bytes other = rw (ne_eqb 239 b (λ e. other (sym e))) refl
+
+    by_name : (name : List ℕ) (names : List (List ℕ)) → get_or name 0 0 ≢ 239 → 0 < length name → is_marked (line (name ∷ names) ++ tail) ≡ false
+    by_name [] names front some = absurd (omega arith)
+    by_name (b ∷ bytes) [] front some = by_byte b ((bytes ++ 10 ∷ []) ++ tail) front
+    by_name (b ∷ bytes) (next ∷ names) front some = by_byte b (((bytes ++ 44 ∷ join_with_byte 44 (next ∷ names)) ++ 10 ∷ []) ++ tail) front
+
+-- nor does the text
 unmarked : (columns : List Column) (rows : List (List Value)) → 0 < length columns → All (λ name. IsTrue (is_name name)) (names_of columns) → is_marked (records_text columns rows) ≡ false
 unfolding records_text
 unmarked columns rows some named =
     let size = length-map columns (λ (c : Column). c.name) in
     let each = recursion_from_All (λ (name : List ℕ). IsTrue (is_name name)) (names_of columns) named in
-    rw (plain_line 64 (names_of columns) (omega arith) (names_plain (names_of columns) each)) (unmarked_line (names_of columns) _ each)
+    rw (plain_line (names_of columns) (omega arith) (names_plain (names_of columns) each)) (unmarked_line (names_of columns) _ each)
 
 unmarked_same : (bytes : List ℕ) → is_marked bytes ≡ false → without_mark bytes ≡ bytes
 unfolding without_mark

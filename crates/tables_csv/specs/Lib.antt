@@ -6,9 +6,6 @@ pub mod Numbers
 pub mod Passes
 pub mod QueryTables
 pub mod Records
-pub mod Rows
-pub mod Tables
-pub mod Texts
 pub mod Values
 pub mod WholeTables
 pub mod WholeTexts

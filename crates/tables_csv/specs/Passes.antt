@@ -18,9 +18,9 @@ pub record Passed (start now : Reader (Bor (List ℕ))) (records : List (List (L
   pub left : source_of slice_bytes now ≡ Some to
   pub reached : Reached default_config (reader_state start) from records (reader_state now) to
 
--- a read went past a record with these fields, or there was none
+-- a read went past a record with these fields, and more can be read; or there was none
 abbrev pub Passes : Reader (Bor (List ℕ)) → Reader (Bor (List ℕ)) → Bool → List (List ℕ) → Type 0
-Passes old new true fields = Passed old new (fields ∷ [])
+Passes old new true fields = IsOpen new × Passed old new (fields ∷ [])
 Passes old new false fields = HasLeft old []
 
 -- what the reader has left does not begin with this record

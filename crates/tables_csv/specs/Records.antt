@@ -1,5 +1,5 @@
 -- the records that a reader of `csv` still has before it
-use Rattle.std.specs.Prelude.{◌≡◌, ◌↔◌, ℕ, Bool, true, false, List, [], ◌∷◌, Option, Some}
+use Rattle.std.specs.Prelude.{◌≡◌, ℕ, List, Option, Some}
 use Rattle.std.specs.Borrow.{Bor}
 use Rattle.csv.specs.Reading.{AreRecords, Ready, default_config, reader_config, reader_state, reader_trim, source_of}
 use Rattle.csv.specs.declared.reader.Reader.{Reader}
@@ -22,14 +22,3 @@ pub record HasLeft (reader : Reader (Bor (List ℕ))) (records : List (List (Lis
   pub bytes : List ℕ
   pub source : source_of slice_bytes reader ≡ Some bytes
   pub all : AreRecords default_config (reader_state reader) bytes records
-
--- a read took the first record that was left, which has these fields; or none was left
-abbrev pub Takes : Reader (Bor (List ℕ)) → Reader (Bor (List ℕ)) → Bool → List (List ℕ) → Type 0
-Takes old new true fields = IsOpen new
-    × ((records : List (List (List ℕ))) → HasLeft old records ↔ ((rest : List (List (List ℕ))) × (records ≡ fields ∷ rest) × HasLeft new rest))
-Takes old new false fields = (records : List (List (List ℕ))) → HasLeft old records ↔ (records ≡ [])
-
--- a read took the first record that was left, and it was these names; or the records that were left do not begin with them
-abbrev pub TakesNames : Reader (Bor (List ℕ)) → Reader (Bor (List ℕ)) → Bool → List (List ℕ) → Type 0
-TakesNames old new true names = IsOpen new × ((rest : List (List (List ℕ))) → HasLeft old (names ∷ rest) ↔ HasLeft new rest)
-TakesNames old new false names = (rest : List (List (List ℕ))) → HasLeft old (names ∷ rest) → ⊥

@@ -1,6 +1,6 @@
 -- which bytes are a table, and how other bytes are refused
-use Rattle.std.specs.Prelude.{◌≡◌, ◌<◌, ◌≤◌, ◌+◌, ◌⊎◌, ℕ, true, false, List, [], ◌∷◌, ◌++◌, length, map, drop, if◌then◌else◌}
-use Rattle.std.specs.List.{AllZip}
+use Rattle.std.specs.Prelude.{◌≡◌, ◌<◌, ◌≤◌, ◌+◌, ◌⊎◌, ℕ, Bool, true, false, List, [], ◌∷◌, ◌++◌, length, map, drop, nat_eq, if◌then◌else◌}
+use Rattle.std.specs.List.{AllZip, starts_with}
 use Rattle.csv.specs.Reading.{AreRecords, Reached, default_config}
 use Rattle.csv.specs.declared.parser.State.{State}
 use Rattle.csv.specs.declared.parser.State.TheVariants as state
@@ -10,8 +10,11 @@ use Rattle.tiql_query.specs.declared.relation.QTable.{QTable}
 use Rattle.tables_csv.specs.declared.fault.TableFault.{TableFault}
 use Rattle.tables_csv.specs.declared.fault.TableFault.TheVariants as fault
 use Rattle.tables_csv.specs.Keys.{HasKeyOf, HaveDistinctKeys}
-use Rattle.tables_csv.specs.Tables.{is_marked}
 use Rattle.tables_csv.specs.Values.{AreValues, IsRowFault}
+
+-- the bytes EF BB BF of a byte order mark stand at the front
+abbrev pub is_marked : List ℕ → Bool
+is_marked bytes = starts_with nat_eq bytes (0xEF ∷ 0xBB ∷ 0xBF ∷ [])
 
 -- the bytes behind a byte order mark, where they begin with one
 unfoldable pub without_mark : List ℕ → List ℕ

@@ -1,5 +1,6 @@
 -- how a table is written, and which rows are read again
 use Rattle.std.specs.Prelude.{◌≡◌, ◌≤◌, ◌^◌, ◌++◌, ℕ, true, false, List, length, map, unsigned_abs, IsUtf8, All}
+use Rattle.std.specs.Fmt.{signed_decimal}
 use Rattle.std.specs.List.{AllZip, flat_map}
 use Rattle.csv.specs.Writing.{default_writer, row_text}
 use Rattle.base_kit.specs.declared.value.Value.{Value}
@@ -7,8 +8,12 @@ use Rattle.base_kit.specs.declared.value.Value.TheVariants.{Int, Text}
 use Rattle.tiql_query.specs.declared.relation.Column.{Column}
 use Rattle.tiql_query.specs.declared.relation.QTable.{QTable}
 use Rattle.tables_csv.specs.Keys.{HaveDistinctKeys}
-use Rattle.tables_csv.specs.Texts.{value_text}
 use Rattle.tables_csv.specs.WholeTables.{names_of}
+
+-- a number as its decimal digits, after a minus where it is below 0; a text as it stands
+abbrev pub value_text : Value → List ℕ
+value_text (Int number) = signed_decimal number
+value_text (Text text) = text
 
 -- what `csv` writes of the names and then of each row
 unfoldable pub records_text : List Column → List (List Value) → List ℕ

@@ -1,4 +1,4 @@
-//! The rows of a whole table, found by their keys.
+//! The rows of a table, found by their keys.
 ghost use Rattle.std.specs.Prelude.{◌<◌, ◌+◌, ◌^◌, length, IfOk, MatchOption};
 ghost use Rattle.tables_csv.specs.Keys.{HasKeyOf, HasNewKey};
 ghost use Rattle.tables_csv.specs.KeyIndexes.{IsIndexOf};

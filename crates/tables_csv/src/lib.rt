@@ -6,18 +6,16 @@ mod hash;
 mod key_index;
 mod keys;
 mod number;
-mod read;
 mod record;
 mod row;
 mod table;
 mod write;
 
-pub use fault::{FirstTableFault, TableFault};
+pub use fault::TableFault;
 pub use key_index::KeyIndex;
 pub use number::MOST_NUMBER;
-pub use read::{MOST_FIRST_ROWS, read_first_table};
 pub use table::{MOST_ROWS, read_table};
-pub use write::{first_table_text, table_text};
+pub use write::table_text;
 
 #[cfg(test)]
 mod tests;

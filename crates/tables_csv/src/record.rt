@@ -1,12 +1,11 @@
 //! The records of a file's bytes, taken one after another from the crate `csv`.
-ghost use Rattle.std.specs.Prelude.{◌≡◌, ◌↔◌, ℕ, List, false, IfOk};
-ghost use Rattle.csv.specs.Reading.{AreRecords, default_config, reader_state, source_of};
+ghost use Rattle.std.specs.Prelude.{◌≡◌, false, IfOk};
+ghost use Rattle.csv.specs.Reading.{reader_state, source_of};
 ghost use Rattle.csv.specs.Records.{fields_of};
 ghost use Rattle.csv.specs.declared.parser.State.TheVariants as state;
 ghost use Rattle.tables_csv.specs.Passes.{Passes};
-ghost use Rattle.tables_csv.specs.Records.{HasLeft, IsOpen, Takes, slice_bytes};
-ghost use Rattle.tables_csv.specs.Tables as spec;
-ghost use Rattle.tables_csv.specs.WholeTables.{without_mark};
+ghost use Rattle.tables_csv.specs.Records.{IsOpen, slice_bytes};
+ghost use Rattle.tables_csv.specs.WholeTables as spec;
 
 use base_kit::Memory;
 use csv::{ByteRecord, Reader, ReaderBuilder};
@@ -25,7 +24,7 @@ pub(crate) fn is_marked(bytes: &[u8]) -> bool
 /// The bytes behind a byte order mark, where they begin with one.
 #[tactic(auto, unfolding(crate::specs::WholeTables::without_mark))]
 pub(crate) fn without_mark(bytes: &[u8]) -> &[u8]
-    ensures { result.now ≡ without_mark bytes.now }
+    ensures { result.now ≡ spec.without_mark bytes.now }
 {
     if is_marked(bytes) { &bytes[3..] } else { bytes }
 }
@@ -37,7 +36,6 @@ pub(crate) fn reader_of(alloc: Global, bytes: &[u8]) -> Reader<&[u8]>
     ensures open { IsOpen result }
     ensures source { source_of slice_bytes result ≡ Some bytes.now }
     ensures state { reader_state result ≡ state.StartRecord }
-    ensures all { (records : List (List (List ℕ))) → HasLeft result records ↔ AreRecords default_config state.StartRecord bytes.now records }
 {
     ReaderBuilder::new()
         .has_headers(false)
@@ -52,8 +50,7 @@ pub(crate) fn take_record(
     fields: &mut ByteRecord,
 ) -> Result<bool, Memory>
     requires { IsOpen reader.old }
-    ensures takes { IfOk result (λ found. Takes reader.old reader.new found (fields_of fields.new)) }
-    ensures passes { IfOk result (λ found. Passes reader.old reader.new found (fields_of fields.new)) }
+    ensures { IfOk result (λ found. Passes reader.old reader.new found (fields_of fields.new)) }
 {
     let Ok(found) = reader.read_byte_record(fields) else {
         return Err(Memory);

@@ -1,39 +1,18 @@
 //! Writing tables.
-ghost use Rattle.std.specs.Prelude.{◌≡◌, ◌*◌, ◌<◌, ◌≤◌, ◌++◌, [], ℕ, List, map, length, IfOk, OnOk, IsTrue, string_bytes};
+ghost use Rattle.std.specs.Prelude.{◌≡◌, ◌<◌, ◌++◌, ℕ, List, map, length, IfOk, OnOk, IsTrue, string_bytes};
 ghost use Rattle.std.specs.List.{All};
 ghost use Rattle.csv.specs.Records.{fields_of};
 ghost use Rattle.csv.specs.Writing.{default_writer, row_text};
 ghost use Rattle.base_kit.specs.Names as names;
-ghost use Rattle.tables_csv.specs.Tables.{HasNumbers, IsFirstTable};
-ghost use Rattle.tables_csv.specs.Texts as spec;
 ghost use Rattle.tables_csv.specs.WholeTables.{IsTableOf, names_of};
-ghost use Rattle.tables_csv.specs.WholeTexts.{AreRowsOf, records_text};
+ghost use Rattle.tables_csv.specs.WholeTexts.{AreRowsOf, records_text, value_text};
 ghost use Rattle.tables_csv.specs.Writers.{HasWritten};
 ghost use Rattle.tiql_query.specs.declared.relation.QTable.{QTable};
 
-use crate::MOST_FIRST_ROWS;
-use base_kit::{List, Memory, Name, Row, Value};
+use base_kit::{List, Memory, Row, Value};
 use csv::{ByteRecord, Writer, WriterBuilder};
 use std::alloc::Global;
 use tiql_query::Column;
-
-/// The bytes of a first table: a line of the names, then one for each row, with commas between the fields
-/// (docs/TABLES.md, "Writing"). Each row has a number for each column, at most `MOST_NUMBER` on either side of 0.
-pub fn first_table_text(alloc: Global, columns: &[Name], rows: &[Row]) -> Result<List<u8>, Memory>
-    requires columns { 0 < length columns.now }
-    requires numbers { All (HasNumbers (length columns.now)) rows.now }
-    requires few { length rows.now ≤ MOST_FIRST_ROWS }
-    ensures text { IfOk result (λ bytes. bytes ≡ spec.table_text columns.now rows.now) }
-    ensures table { IfOk result (λ bytes. IsFirstTable bytes columns.now rows.now) }
-    ensures size { IfOk result (λ bytes. length bytes ≤ 2000 * length columns.now) }
-{
-    let mut writer = WriterBuilder::new().from_writer(Vec::new(alloc));
-    put(&mut writer, &name_fields(alloc, columns)?)?;
-    for row in rows {
-        put(&mut writer, &value_fields(alloc, row.as_slice())?)?;
-    }
-    written(writer)
-}
 
 /// The bytes of a table: a record of the columns' names, then one for each row, as `csv` writes them
 /// (docs/TABLES.md, "Writing"). Each row has a value for each column.
@@ -66,21 +45,9 @@ fn column_fields(alloc: Global, columns: &[Column]) -> Result<ByteRecord, Memory
     Ok(fields)
 }
 
-// The names as the fields of a record.
-fn name_fields(alloc: Global, columns: &[Name]) -> Result<ByteRecord, Memory>
-    ensures fields { IfOk result (λ fields. fields_of fields ≡ columns.now) }
-    ensures names { OnOk result (All (λ name. IsTrue (names.is_name name)) columns.now) }
-{
-    let mut fields = ByteRecord::new(alloc);
-    for name in columns {
-        fields.push_field(name.as_str().as_bytes())?;
-    }
-    Ok(fields)
-}
-
 // The values as the fields of a record.
 fn value_fields(alloc: Global, row: &[Value]) -> Result<ByteRecord, Memory>
-    ensures { IfOk result (λ fields. fields_of fields ≡ map spec.value_text row.now) }
+    ensures { IfOk result (λ fields. fields_of fields ≡ map value_text row.now) }
 {
     let mut fields = ByteRecord::new(alloc);
     for value in row {
@@ -91,7 +58,7 @@ fn value_fields(alloc: Global, row: &[Value]) -> Result<ByteRecord, Memory>
 
 // A value as its field.
 fn value_text(alloc: Global, value: &Value) -> Result<String, Memory>
-    ensures { IfOk result (λ text. string_bytes text ≡ spec.value_text value.now) }
+    ensures { IfOk result (λ text. string_bytes text ≡ value_text value.now) }
 {
     match value {
         Value::Int(number) => Ok(format!(in alloc; "{number}")?),

@@ -1,6 +1,5 @@
 pub mod Conditions
 pub mod Expressions
-pub mod FirstTexts
 pub mod Outcomes
 pub mod Queries
 pub mod Selects

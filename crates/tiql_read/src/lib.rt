@@ -8,11 +8,9 @@ mod expression;
 mod item;
 mod leaf;
 mod list;
-mod query;
 mod reader;
 mod select;
 mod whole;
 mod word;
 
-pub use query::{FirstCmp, FirstQuery};
 pub use reader::{ReadFault, read_query};

@@ -1,70 +1,57 @@
--- A finished answer of the listing is one that an audit accepts.
-use Rattle.std.proofs.Common.{ℕ, ℤ, List, subst, arith}
-use Rattle.std.specs.Prelude.{Option, Some, None, Ok, position}
-use Rattle.tiql_read.specs.declared.query.FirstQuery.{FirstQuery}
-use Rattle.branch_tree.specs.Listing.{Closes, has_two}
+-- what the listing of worlds answers, and what a check accepts
+use Rattle.std.proofs.Common.{◌≡◌, ℕ, ℤ, ◌^◌, ◌<◌, ◌≤◌, arith, List, subst}
+use Rattle.std.specs.Prelude.{Ok, true}
+use Rattle.answer_text.specs.Worlds.{IsWorldOf}
 use Rattle.answer_text.specs.declared.answer.Answer.{Answer}
 use Rattle.answer_text.specs.declared.answer.PartAnswer.{PartAnswer}
 use Rattle.answer_text.specs.declared.answer.Verdict.TheVariants as verdict
 use Rattle.answer_text.specs.declared.answer.WorldText.{WorldText}
-use Rattle.world_def.specs.First.{Rows, root, value_of}
-use Rattle.cert_check.specs.Valid.{AreClosedFor, IsClosed, IsRight, IsValid, IsValidVerdict}
-use Rattle.cert_check.specs.Reasons.{IsOutcome}
+use Rattle.cert_check.specs.Reasons.{IsOutcome, is_finished}
+use Rattle.cert_check.specs.Valid.{IsRight, IsValid, NoFaults}
 use Rattle.cert_check.proofs.Accepted.{accepted_valid, valid_right}
-use Rattle.cert_check.proofs.Spelled.{valid_spelled}
-use Rattle.tables_csv.proofs.FirstTables.{first_table-numbers}
-use Rattle.tiql_read.specs.FirstTexts.{IsFirstQuery}
-use Rattle.tiresias_core.proofs.FirstAsked.{first_text-query}
-use Rattle.tiresias_core.specs.Visits.{Visit}
-use Rattle.tiresias_core.specs.Causes.{Accepted}
+use Rattle.job_intake.specs.declared.job.Job.{Job}
+use Rattle.job_intake.specs.declared.job.Task.TheVariants as task
+use Rattle.job_intake.specs.Ready.{IsReady}
+use Rattle.job_intake.specs.Tasks.{IsTaken}
+use Rattle.job_intake.specs.Visits.{Visit}
+use Rattle.listed_audit.proofs.Accepted.{listed_sound, listed_valid}
+use Rattle.listed_audit.proofs.Sections.{rows_read}
+use Rattle.listed_audit.proofs.Spelled.{listed_text}
+use Rattle.world_def.specs.Meaning.{IsBest, score}
+use Rattle.world_def.specs.declared.world.World.{World}
+use Rattle.world_listing.specs.Parts.{Answers, IsOptimal, Tells as Verdicts}
+use Rattle.tiresias_core.specs.Causes.{Checks, Solves}
 use Rattle.tiresias_core.specs.Results.{IsReadable}
-use Rattle.first_listing.specs.Parts.{Answers, ArePartsFor, IsWhole, Tells}
 
-module _ (query : FirstQuery) (table : Rows) (budget : ℕ) where
-  closed_of : (best : Option ℤ) (part : PartAnswer) → IsWhole query table budget best part → IsClosed query table best part
-  closed_of best part whole = record {
-    number = whole.listed.number;
-    columns = whole.listed.columns;
-    found = whole.found;
-    tree = whole.listed.tree;
-    nodes = whole.listed.nodes;
-    done = whole.done;
-    closes = subst (λ (b : Option ℤ). Closes (value_of query table) b whole.listed.tree (root query table)) whole.found whole.listed.closes;
-  }
+module _ (words : List (List ℕ)) (v : Visit) (job : Job) (nodes : ℕ) (answer : Answer) (solves : Solves words v job nodes) (answers : Answers job.query job.tables job.columns nodes answer) where
+  ready : IsReady job
+  ready = solves.work.ready
 
-  all_closed : (best : Option ℤ) (column : Option ℕ) (parts : List PartAnswer) → ArePartsFor query table budget best column parts → AreClosedFor query table best column parts
-  all_closed best None parts are = are
-  all_closed best (Some column) parts are = (are.0, are.1, closed_of best are.0 are.2)
+  few_nodes : nodes < 2 ^ 32
+  few_nodes = let few : nodes ≤ 100000 = subst IsTaken solves.task ready.taken in omega (arith, few)
 
-  pub valid_optimal : (objective : ℤ) (worlds : List WorldText) (parts : List PartAnswer) → Tells query table budget (verdict.Optimal objective worlds parts) → IsValidVerdict query table (verdict.Optimal objective worlds parts)
-  valid_optimal objective worlds parts tells = record {
-    world = tells.world;
-    given = record { text = tells.text; one = tells.sections; section = tells.section; possible = tells.best.possible };
-    meets = tells.best.meets;
-    value = tells.score;
-    closed = all_closed (Some objective) (position has_two (root query table)) parts tells.listed;
-  }
+  readable : IsReadable answer
+  readable short = listed_text job.query job.tables job.columns nodes answer ready.asked.numbered.fit ready.tables ready.columns ready.wide few_nodes answers short
 
-  pub valid_none : (part : PartAnswer) → Tells query table budget (verdict.NoWorld part) → IsValidVerdict query table (verdict.NoWorld part)
-  valid_none part tells = record { several = tells.several; closed = closed_of None part tells.whole }
+  -- a finished answer is valid, no world that a check of it judges is at fault, and it is read from its text
+  pub finished_says : is_finished answer.verdict ≡ true → IsValid job.query job.tables job.columns answer × NoFaults job.query job.tables job.columns answer.verdict × IsReadable answer
+  finished_says finished = (
+    listed_valid job.query job.tables job.columns nodes answer ready.asked.numbered.fit ready.tables ready.columns ready.wide answers finished,
+    listed_sound job.query job.tables job.columns nodes answer ready.asked.numbered.fit ready.tables ready.columns ready.wide answers,
+    readable,
+  )
 
-  pub valid_row : (row : ℕ) → Tells query table budget (verdict.FalseRow row) → IsValidVerdict query table (verdict.FalseRow row)
-  valid_row row tells = record { first = tells.first; fixed = tells.fixed; none = tells.none }
+  -- and where it is optimal, its sections are those of a best world
+  pub optimal_says : (objective : ℤ) (worlds : List WorldText) (parts : List PartAnswer) → answer.verdict ≡ verdict.Optimal objective worlds parts →
+      (world : World) × IsWorldOf job.query job.tables worlds world × IsBest job.query job.tables world × (objective ≡ score job.query.aim job.tables world)
+  optimal_says objective worlds parts at =
+      let told : IsOptimal job.query job.tables job.columns nodes objective worlds parts = subst (Verdicts job.query job.tables job.columns nodes) at answers.verdict in
+      (told.world, rows_read job.query job.tables job.columns worlds told.world ready.asked.numbered.fit ready.tables ready.columns ready.wide told.best.possible told.sections, told.best, told.score)
 
-  pub valid_of : (answer : Answer) → Answers query table budget answer → IsValidVerdict query table answer.verdict → IsValid query table answer
-  valid_of answer answers holds = record { columns = answers.columns; rows = answers.rows; formulas = answers.formulas; verdict = holds }
-
-module _ (words : List (List ℕ)) (v : Visit) (query : FirstQuery) (rows : Rows) (accepted : Accepted words v query rows) (answer : Answer) where
-  query_is : IsFirstQuery query
-  query_is = first_text-query accepted.asks.bytes query accepted.asks.spelled
-
-  -- an answer that is accepted is valid, and right
-  pub audit_valid : IsOutcome query rows answer (Ok tt) → IsValid query rows answer
-  audit_valid of = accepted_valid query rows query_is.sound.order answer of
-
-  pub audit_right : IsOutcome query rows answer (Ok tt) → IsRight query rows answer.verdict
-  audit_right of = valid_right query rows query_is.sound.order answer (audit_valid of)
-
-  -- a valid one of at most 512 MiB is read from its text
-  pub readable_of : IsValid query rows answer → IsReadable answer
-  readable_of valid = λ short. valid_spelled query rows query_is (first_table-numbers accepted.bytes query.columns rows accepted.table) accepted.table.few answer valid (let most = short in omega (arith, most))
+-- an answer that is accepted is valid, and right
+pub accepted_right : (words : List (List ℕ)) (v : Visit) (job : Job) (answer : Answer) → Checks words v job answer → IsOutcome job.query job.tables job.columns answer (Ok tt) →
+    IsValid job.query job.tables job.columns answer × IsRight job.query job.tables answer.verdict
+accepted_right words v job answer checks of =
+    let ready = checks.work.ready in
+    let valid = accepted_valid job.query job.tables job.columns ready.columns ready.asked.numbered.fit ready.tables answer of in
+    (valid, valid_right job.query job.tables job.columns ready.columns ready.asked.numbered.fit ready.tables answer valid)

@@ -1,15 +1,15 @@
 -- What is left of a reply with its cause is what a run leaves.
-use Rattle.std.proofs.Common.{◌≡◌, ◌≢◌, ℕ, List, refl}
+use Rattle.std.proofs.Common.{◌≡◌, ◌≢◌, ℕ, List, refl, ◌∙◌, ap, inl, inr}
 use Rattle.std.specs.Prelude.{Option}
 use Rattle.base_kit.specs.declared.status.Status.{Status}
 use Rattle.base_kit.specs.declared.status.Status.TheVariants as status
-use Rattle.tiresias_core.specs.Causes.{IsReply, NoneFailed}
+use Rattle.tiresias_core.specs.Causes.{IsReply, KeepsFaults}
 use Rattle.tiresias_core.specs.Replies.{status_of}
 use Rattle.tiresias_core.specs.Runs.{Leaves, Tells}
-use Rattle.tiresias_core.specs.Visits.{Visit}
+use Rattle.job_intake.specs.Visits.{Visit}
 use Rattle.tiresias_core.specs.declared.reply.Reply.{Reply}
 use Rattle.tiresias_core.specs.declared.reply.Reply.TheVariants as reply
-use Rattle.tiresias_core.specs.declared.reply.FileFault.TheVariants as fault
+use Rattle.tiresias_core.specs.Lines.{refusal_status}
 
 pub leaves_of : (words : List (List ℕ)) (v : Visit) (before now : Option (List ℕ)) (faults faults' : ℕ) (told : Status) (reply : Reply) → IsReply words v reply → Tells reply before now faults faults' told → Leaves words v before now faults faults' told
 leaves_of words v before now faults faults' status.Write reply is told = record { rose = told.0; reply = reply; cause = is; bytes = told.1.0; text = told.1.1 }
@@ -40,23 +40,10 @@ same_status before now faults faults' status.Write reply tells whole room = absu
 same_status before now faults faults' status.Memory reply tells whole room = absurd (room refl)
 
 -- no fetch failed, unless the status tells it
-pub reads_of : (before now : Option (List ℕ)) (faults faults' first last : ℕ) (told : Status) (reply : Reply) → NoneFailed first last reply → Tells reply before now faults faults' told → told ≢ status.Read → told ≢ status.Write → told ≢ status.Memory → last ≡ first
-reads_of before now faults faults' first last told reply.Words kept tells unread whole room = kept
+pub reads_of : (before now : Option (List ℕ)) (faults faults' first last : ℕ) (told : Status) (reply : Reply) → KeepsFaults reply first last → Tells reply before now faults faults' told → told ≢ status.Read → told ≢ status.Write → told ≢ status.Memory → last ≡ first
+reads_of before now faults faults' first last told (reply.Refused why) (inl failed) tells unread whole room = absurd (unread (same_status before now faults faults' told (reply.Refused why) tells whole room ∙ ap refusal_status failed.1))
+reads_of before now faults faults' first last told (reply.Refused why) (inr kept) tells unread whole room = kept
 reads_of before now faults faults' first last told (reply.Answered answer) kept tells unread whole room = kept
-reads_of before now faults faults' first last told (reply.Query fault.Absent name) kept tells unread whole room = kept
-reads_of before now faults faults' first last told (reply.Query fault.TooLong name) kept tells unread whole room = kept
-reads_of before now faults faults' first last told (reply.Query fault.NotBuilt name) kept tells unread whole room = kept
-reads_of before now faults faults' first last told (reply.Query fault.ReadFailed name) kept tells unread whole room = absurd (unread (same_status before now faults faults' told (reply.Query fault.ReadFailed name) tells whole room))
-reads_of before now faults faults' first last told (reply.Syntax place) kept tells unread whole room = kept
-reads_of before now faults faults' first last told (reply.Unsound fault) kept tells unread whole room = kept
-reads_of before now faults faults' first last told (reply.Table fault.Absent name) kept tells unread whole room = kept
-reads_of before now faults faults' first last told (reply.Table fault.TooLong name) kept tells unread whole room = kept
-reads_of before now faults faults' first last told (reply.Table fault.NotBuilt name) kept tells unread whole room = kept
-reads_of before now faults faults' first last told (reply.Table fault.ReadFailed name) kept tells unread whole room = absurd (unread (same_status before now faults faults' told (reply.Table fault.ReadFailed name) tells whole room))
-reads_of before now faults faults' first last told (reply.Answer fault.Absent name) kept tells unread whole room = kept
-reads_of before now faults faults' first last told (reply.Answer fault.TooLong name) kept tells unread whole room = kept
-reads_of before now faults faults' first last told (reply.Answer fault.NotBuilt name) kept tells unread whole room = kept
-reads_of before now faults faults' first last told (reply.Answer fault.ReadFailed name) kept tells unread whole room = absurd (unread (same_status before now faults faults' told (reply.Answer fault.ReadFailed name) tells whole room))
-reads_of before now faults faults' first last told (reply.Unreadable line) kept tells unread whole room = kept
+reads_of before now faults faults' first last told (reply.TooWide name number) kept tells unread whole room = kept
 reads_of before now faults faults' first last told (reply.Accepted objective) kept tells unread whole room = kept
 reads_of before now faults faults' first last told (reply.Rejected reason part node) kept tells unread whole room = kept

@@ -1,11 +1,7 @@
-pub mod Deciding
-pub mod Pieces
-pub mod Leaving
-pub mod Saying
-pub mod Calling
 pub mod Auditing
-pub mod FirstQueries
-pub mod FirstAsked
-pub mod FirstNames
-pub mod FirstReading
-pub mod FirstResolving
+pub mod Calling
+pub mod Doing
+pub mod Joined
+pub mod Leaving
+pub mod Pieces
+pub mod Saying

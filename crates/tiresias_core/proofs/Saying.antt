@@ -1,300 +1,237 @@
--- What each status says, from what a run leaves.
-use Rattle.std.proofs.Common.{◌≡◌, ◌⊎◌, ℕ, ℤ, List, refl, subst, sym, inl, inr}
-use Rattle.std.specs.Prelude.{Option, None, string_bytes}
+-- what each status says, from what a run leaves
+use Rattle.std.proofs.Common.{◌≡◌, ◌≢◌, ◌⊎◌, ℕ, ℤ, List, refl, sym, subst, ap, inl, inr}
+use Rattle.std.specs.Prelude.{Option, true}
 use Rattle.std.specs.Io.KnownBytes.{Appends}
 use Rattle.base_kit.specs.declared.status.Status.{Status}
 use Rattle.base_kit.specs.declared.status.Status.TheVariants as status
 use Rattle.outside_io.specs.Counts.{Rose}
+use Rattle.cert_check.specs.Reasons.{is_finished}
+use Rattle.cert_check.specs.declared.fault.CheckFault.TheVariants as wrong
+use Rattle.answer_text.specs.declared.answer.Answer.{Answer}
 use Rattle.answer_text.specs.declared.answer.Verdict.{Verdict}
 use Rattle.answer_text.specs.declared.answer.Verdict.TheVariants as verdict
-use Rattle.cert_check.specs.Valid.{IsValid, IsValidVerdict}
-use Rattle.first_listing.specs.Parts.{Tells}
-use Rattle.tiresias_core.proofs.Auditing.{valid_of, valid_optimal, valid_none, valid_row, readable_of, audit_valid, audit_right}
-use Rattle.tiresias_core.specs.Words.{form_of}
-use Rattle.tiresias_core.specs.Visits.{Visit, Holds}
-use Rattle.tiresias_core.specs.Causes.{IsReply, FileStops}
-use Rattle.tiresias_core.specs.Replies.{status_of, text_of, fault_line, accepted_line, verdict_status}
-use Rattle.tiresias_core.specs.Results.{WroteAccepted, WroteBest, WroteNone, WroteNoTable, WroteRefusedQuery, WroteRejected, WroteUnfinished, WroteUnread, WroteUnreadable}
-use Rattle.tiresias_core.specs.Runs.{Leaves}
-use Rattle.tiresias_core.specs.declared.fetch.TheConstants.{MOST_FILE_BYTES, MOST_ANSWER_BYTES}
+use Rattle.job_intake.specs.declared.job.Job.{Job}
+use Rattle.job_intake.specs.declared.job.Task.{Task}
+use Rattle.job_intake.specs.declared.job.Task.TheVariants as task
+use Rattle.job_intake.specs.declared.refusal.Refusal.{Refusal}
+use Rattle.job_intake.specs.declared.refusal.Refusal.TheVariants as refusal
+use Rattle.job_intake.specs.Visits.{Visit}
+use Rattle.world_def.specs.Meaning.{NoneMeets}
+use Rattle.world_listing.specs.Parts.{Answers, Tells as Verdicts}
+use Rattle.tiresias_core.proofs.Auditing.{accepted_right, finished_says, optimal_says}
+use Rattle.tiresias_core.specs.Causes.{Checks, IsDoneFor, IsReply, Passes, Solves}
+use Rattle.tiresias_core.specs.Lines.{refusal_status}
+use Rattle.tiresias_core.specs.Replies.{accepted_line, status_of, text_of, verdict_status}
+use Rattle.tiresias_core.specs.Results.{WroteAccepted, WroteBest, WroteNone, WroteRefusal, WroteRejected, WroteUnfinished, WroteWide}
+use Rattle.tiresias_core.specs.Runs.{Leaves, Wrote}
 use Rattle.tiresias_core.specs.declared.reply.Reply.{Reply}
 use Rattle.tiresias_core.specs.declared.reply.Reply.TheVariants as reply
-use Rattle.tiresias_core.specs.declared.reply.FileFault.TheVariants as fault
+
+-- an answer is made where worlds are listed
+pub record Listed (words : List (List ℕ)) (v : Visit) (answer : Answer) : Type 0 where
+  pub job : Job
+  pub nodes : ℕ
+  pub solves : Solves words v job nodes
+  pub answers : Answers job.query job.tables job.columns nodes answer
+
+-- a check comes to an outcome where an answer is checked
+pub record Checked (words : List (List ℕ)) (v : Visit) (told : Reply) : Type 0 where
+  pub job : Job
+  pub answer : Answer
+  pub checks : Checks words v job answer
+  pub done : IsDoneFor job (task.Check answer) told
+
+module _ (words : List (List ℕ)) (v : Visit) where
+  pub listed_of : (answer : Answer) → IsReply words v (reply.Answered answer) → Listed words v answer
+  listed_of answer is = by_task is.0.task refl is.2
+    where
+      by_task : (it : Task) → is.0.task ≡ it → IsDoneFor is.0 it (reply.Answered answer) → Listed words v answer
+      by_task (task.Solve nodes) e done = record { job = is.0; nodes = nodes; solves = record { work = is.1; task = e }; answers = done }
+      by_task (task.Check other) e done = absurd done
+
+  pub accepted_of : (objective : Option ℤ) → IsReply words v (reply.Accepted objective) → Checked words v (reply.Accepted objective)
+  accepted_of objective is = by_task is.0.task refl is.2
+    where
+      by_task : (it : Task) → is.0.task ≡ it → IsDoneFor is.0 it (reply.Accepted objective) → Checked words v (reply.Accepted objective)
+      by_task (task.Solve nodes) e done = absurd done
+      by_task (task.Check answer) e done = record { job = is.0; answer = answer; checks = record { work = is.1; task = e }; done = done }
+
+  pub rejected_of : (reason : _) (part node : ℕ) → IsReply words v (reply.Rejected reason part node) → Checked words v (reply.Rejected reason part node)
+  rejected_of reason part node is = by_task is.0.task refl is.2
+    where
+      by_task : (it : Task) → is.0.task ≡ it → IsDoneFor is.0 it (reply.Rejected reason part node) → Checked words v (reply.Rejected reason part node)
+      by_task (task.Solve nodes) e done = absurd done
+      by_task (task.Check answer) e done = record { job = is.0; answer = answer; checks = record { work = is.1; task = e }; done = done }
+
+-- a value that passes does so where the job is done
+wide_of : (job : Job) (it : Task) (name : List ℕ) (number : ℤ) → IsDoneFor job it (reply.TooWide name number) → Passes job it name number
+wide_of job (task.Solve nodes) name number done = done
+wide_of job (task.Check answer) name number done = done
+
+-- no refusal has one of these statuses
+not_refused : (why : Refusal) → (refusal_status why ≢ status.Done) × (refusal_status why ≢ status.Impossible) × (refusal_status why ≢ status.Unfinished) × (refusal_status why ≢ status.Rejected)
+not_refused refusal.Words = ((λ e. cc), (λ e. cc), (λ e. cc), (λ e. cc))
+not_refused (refusal.File name why) = ((λ e. cc), (λ e. cc), (λ e. cc), (λ e. cc))
+not_refused (refusal.Syntax place) = ((λ e. cc), (λ e. cc), (λ e. cc), (λ e. cc))
+not_refused (refusal.Unsound fault) = ((λ e. cc), (λ e. cc), (λ e. cc), (λ e. cc))
+not_refused (refusal.NotBuilt name) = ((λ e. cc), (λ e. cc), (λ e. cc), (λ e. cc))
+not_refused (refusal.Table name why) = ((λ e. cc), (λ e. cc), (λ e. cc), (λ e. cc))
+not_refused (refusal.EmptyBounds hypo row) = ((λ e. cc), (λ e. cc), (λ e. cc), (λ e. cc))
+not_refused (refusal.TooWide hypo number) = ((λ e. cc), (λ e. cc), (λ e. cc), (λ e. cc))
+not_refused refusal.TooManyWorldColumns = ((λ e. cc), (λ e. cc), (λ e. cc), (λ e. cc))
+not_refused (refusal.TooManyColumns count) = ((λ e. cc), (λ e. cc), (λ e. cc), (λ e. cc))
+not_refused (refusal.PartTooLarge columns) = ((λ e. cc), (λ e. cc), (λ e. cc), (λ e. cc))
+not_refused (refusal.Unreadable line) = ((λ e. cc), (λ e. cc), (λ e. cc), (λ e. cc))
 
 module _ (words : List (List ℕ)) (v : Visit) (before now : Option (List ℕ)) where
   done_of : (told : Reply) → IsReply words v told → status.Done ≡ status_of told → Appends before now (text_of told) → WroteBest words v before now ⊎ WroteAccepted words v before now
-  done_of reply.Words is same text = absurd cc
-  done_of (reply.Query fault.Absent name) is same text = absurd cc
-  done_of (reply.Query fault.ReadFailed name) is same text = absurd cc
-  done_of (reply.Query fault.TooLong name) is same text = absurd cc
-  done_of (reply.Query fault.NotBuilt name) is same text = absurd cc
-  done_of (reply.Syntax place) is same text = absurd cc
-  done_of (reply.Unsound fault) is same text = absurd cc
-  done_of (reply.Table fault.Absent name) is same text = absurd cc
-  done_of (reply.Table fault.ReadFailed name) is same text = absurd cc
-  done_of (reply.Table fault.TooLong name) is same text = absurd cc
-  done_of (reply.Table fault.NotBuilt name) is same text = absurd cc
-  done_of (reply.Answer fault.Absent name) is same text = absurd cc
-  done_of (reply.Answer fault.ReadFailed name) is same text = absurd cc
-  done_of (reply.Answer fault.TooLong name) is same text = absurd cc
-  done_of (reply.Answer fault.NotBuilt name) is same text = absurd cc
-  done_of (reply.Unreadable line) is same text = absurd cc
-  done_of (reply.Accepted objective) is same text = inr (record { query = is.0; rows = is.1; name = is.2; audits = is.3; answer = is.4.0; reads = is.4.1; valid = audit_valid words v is.0 is.1 is.3.accepted is.4.0 is.4.2; right = audit_right words v is.0 is.1 is.3.accepted is.4.0 is.4.2; text = subst (λ (o : Option ℤ). Appends before now (accepted_line o)) is.4.3 text })
+  done_of (reply.Refused why) is same text = absurd ((not_refused why).0 (sym same))
+  done_of (reply.TooWide name number) is same text = absurd cc
   done_of (reply.Rejected reason part node) is same text = absurd cc
+  done_of (reply.Accepted objective) is same text =
+      let it = accepted_of words v objective is in
+      let right = accepted_right words v it.job it.answer it.checks it.done.0 in
+      inr (record { job = it.job; answer = it.answer; checks = it.checks; valid = right.0; right = right.1; text = subst (λ (o : Option ℤ). Appends before now (accepted_line o)) it.done.1 text })
   done_of (reply.Answered answer) is same text = by_verdict answer.verdict refl same
     where
+      it : Listed words v answer
+      it = listed_of words v answer is
+
       by_verdict : (told : Verdict) → answer.verdict ≡ told → status.Done ≡ verdict_status told → WroteBest words v before now ⊎ WroteAccepted words v before now
-      by_verdict (verdict.Optimal objective worlds parts) at same = inl (let valid : IsValid is.0 is.1 answer = (valid_of is.0 is.1 is.3 answer is.5 (subst (λ (x : Verdict). IsValidVerdict is.0 is.1 x) (sym at) (valid_optimal is.0 is.1 is.3 objective worlds parts (subst (λ (x : Verdict). Tells is.0 is.1 is.3 x) at is.5.verdict)))) in record { query = is.0; rows = is.1; accepted = is.2; budget = is.3; solves = is.4; answer = answer; objective = objective; worlds = worlds; parts = parts; verdict = at; optimal = (subst (λ (x : Verdict). Tells is.0 is.1 is.3 x) at is.5.verdict); valid = valid; readable = readable_of words v is.0 is.1 is.2 answer valid; text = text })
+      by_verdict (verdict.Optimal objective worlds parts) at same =
+          let best = optimal_says words v it.job it.nodes answer it.solves it.answers objective worlds parts at in
+          let right = finished_says words v it.job it.nodes answer it.solves it.answers (ap is_finished at) in
+          inl (record {
+            job = it.job;
+            nodes = it.nodes;
+            solves = it.solves;
+            answer = answer;
+            objective = objective;
+            worlds = worlds;
+            parts = parts;
+            verdict = at;
+            answers = it.answers;
+            world = best.0;
+            given = best.1;
+            best = best.2;
+            value = best.3;
+            valid = right.0;
+            sound = right.1;
+            readable = right.2;
+            text = text;
+          })
       by_verdict (verdict.FalseRow row) at same = absurd cc
       by_verdict (verdict.NoWorld part) at same = absurd cc
       by_verdict (verdict.Unfinished nodes parts) at same = absurd cc
 
   none_of : (told : Reply) → IsReply words v told → status.Impossible ≡ status_of told → Appends before now (text_of told) → WroteNone words v before now
-  none_of reply.Words is same text = absurd cc
-  none_of (reply.Query fault.Absent name) is same text = absurd cc
-  none_of (reply.Query fault.ReadFailed name) is same text = absurd cc
-  none_of (reply.Query fault.TooLong name) is same text = absurd cc
-  none_of (reply.Query fault.NotBuilt name) is same text = absurd cc
-  none_of (reply.Syntax place) is same text = absurd cc
-  none_of (reply.Unsound fault) is same text = absurd cc
-  none_of (reply.Table fault.Absent name) is same text = absurd cc
-  none_of (reply.Table fault.ReadFailed name) is same text = absurd cc
-  none_of (reply.Table fault.TooLong name) is same text = absurd cc
-  none_of (reply.Table fault.NotBuilt name) is same text = absurd cc
-  none_of (reply.Answer fault.Absent name) is same text = absurd cc
-  none_of (reply.Answer fault.ReadFailed name) is same text = absurd cc
-  none_of (reply.Answer fault.TooLong name) is same text = absurd cc
-  none_of (reply.Answer fault.NotBuilt name) is same text = absurd cc
-  none_of (reply.Unreadable line) is same text = absurd cc
-  none_of (reply.Accepted objective) is same text = absurd cc
+  none_of (reply.Refused why) is same text = absurd ((not_refused why).1 (sym same))
+  none_of (reply.TooWide name number) is same text = absurd cc
   none_of (reply.Rejected reason part node) is same text = absurd cc
+  none_of (reply.Accepted objective) is same text = absurd cc
   none_of (reply.Answered answer) is same text = by_verdict answer.verdict refl same
     where
+      it : Listed words v answer
+      it = listed_of words v answer is
+
+      wrote : NoneMeets it.job.query it.job.tables → is_finished answer.verdict ≡ true → WroteNone words v before now
+      wrote none finished =
+          let right = finished_says words v it.job it.nodes answer it.solves it.answers finished in
+          record { job = it.job; nodes = it.nodes; solves = it.solves; none = none; answer = answer; answers = it.answers; valid = right.0; sound = right.1; readable = right.2; text = text }
+
       by_verdict : (told : Verdict) → answer.verdict ≡ told → status.Impossible ≡ verdict_status told → WroteNone words v before now
       by_verdict (verdict.Optimal objective worlds parts) at same = absurd cc
-      by_verdict (verdict.FalseRow row) at same = let valid : IsValid is.0 is.1 answer = (valid_of is.0 is.1 is.3 answer is.5 (subst (λ (x : Verdict). IsValidVerdict is.0 is.1 x) (sym at) (valid_row is.0 is.1 is.3 row (subst (λ (x : Verdict). Tells is.0 is.1 is.3 x) at is.5.verdict)))) in record { query = is.0; rows = is.1; accepted = is.2; budget = is.3; solves = is.4; answer = answer; none = (subst (λ (x : Verdict). Tells is.0 is.1 is.3 x) at is.5.verdict).none; answers = is.5; valid = valid; readable = readable_of words v is.0 is.1 is.2 answer valid; text = text }
-      by_verdict (verdict.NoWorld part) at same = let valid : IsValid is.0 is.1 answer = (valid_of is.0 is.1 is.3 answer is.5 (subst (λ (x : Verdict). IsValidVerdict is.0 is.1 x) (sym at) (valid_none is.0 is.1 is.3 part (subst (λ (x : Verdict). Tells is.0 is.1 is.3 x) at is.5.verdict)))) in record { query = is.0; rows = is.1; accepted = is.2; budget = is.3; solves = is.4; answer = answer; none = (subst (λ (x : Verdict). Tells is.0 is.1 is.3 x) at is.5.verdict).none; answers = is.5; valid = valid; readable = readable_of words v is.0 is.1 is.2 answer valid; text = text }
+      by_verdict (verdict.FalseRow row) at same = wrote (subst (Verdicts it.job.query it.job.tables it.job.columns it.nodes) at it.answers.verdict).none (ap is_finished at)
+      by_verdict (verdict.NoWorld part) at same = wrote (subst (Verdicts it.job.query it.job.tables it.job.columns it.nodes) at it.answers.verdict).none (ap is_finished at)
       by_verdict (verdict.Unfinished nodes parts) at same = absurd cc
 
   unfinished_of : (told : Reply) → IsReply words v told → status.Unfinished ≡ status_of told → Appends before now (text_of told) → WroteUnfinished words v before now
-  unfinished_of reply.Words is same text = absurd cc
-  unfinished_of (reply.Query fault.Absent name) is same text = absurd cc
-  unfinished_of (reply.Query fault.ReadFailed name) is same text = absurd cc
-  unfinished_of (reply.Query fault.TooLong name) is same text = absurd cc
-  unfinished_of (reply.Query fault.NotBuilt name) is same text = absurd cc
-  unfinished_of (reply.Syntax place) is same text = absurd cc
-  unfinished_of (reply.Unsound fault) is same text = absurd cc
-  unfinished_of (reply.Table fault.Absent name) is same text = absurd cc
-  unfinished_of (reply.Table fault.ReadFailed name) is same text = absurd cc
-  unfinished_of (reply.Table fault.TooLong name) is same text = absurd cc
-  unfinished_of (reply.Table fault.NotBuilt name) is same text = absurd cc
-  unfinished_of (reply.Answer fault.Absent name) is same text = absurd cc
-  unfinished_of (reply.Answer fault.ReadFailed name) is same text = absurd cc
-  unfinished_of (reply.Answer fault.TooLong name) is same text = absurd cc
-  unfinished_of (reply.Answer fault.NotBuilt name) is same text = absurd cc
-  unfinished_of (reply.Unreadable line) is same text = absurd cc
-  unfinished_of (reply.Accepted objective) is same text = absurd cc
+  unfinished_of (reply.Refused why) is same text = absurd ((not_refused why).2 (sym same))
+  unfinished_of (reply.TooWide name number) is same text = absurd cc
   unfinished_of (reply.Rejected reason part node) is same text = absurd cc
+  unfinished_of (reply.Accepted objective) is same text = absurd cc
   unfinished_of (reply.Answered answer) is same text = by_verdict answer.verdict refl same
     where
+      it : Listed words v answer
+      it = listed_of words v answer is
+
       by_verdict : (told : Verdict) → answer.verdict ≡ told → status.Unfinished ≡ verdict_status told → WroteUnfinished words v before now
       by_verdict (verdict.Optimal objective worlds parts) at same = absurd cc
       by_verdict (verdict.FalseRow row) at same = absurd cc
       by_verdict (verdict.NoWorld part) at same = absurd cc
-      by_verdict (verdict.Unfinished nodes parts) at same = record { query = is.0; rows = is.1; accepted = is.2; budget = is.3; solves = is.4; answer = answer; nodes = nodes; parts = parts; verdict = at; unfinished = (subst (λ (x : Verdict). Tells is.0 is.1 is.3 x) at is.5.verdict); text = text }
+      by_verdict (verdict.Unfinished nodes parts) at same =
+          record { job = it.job; budget = it.nodes; solves = it.solves; answer = answer; nodes = nodes; parts = parts; verdict = at; unfinished = subst (Verdicts it.job.query it.job.tables it.job.columns it.nodes) at it.answers.verdict; text = text }
 
-  words_of : (told : Reply) → IsReply words v told → status.Words ≡ status_of told → Appends before now (text_of told) → form_of words ≡ None
-  words_of reply.Words is same text = is
-  words_of (reply.Query fault.Absent name) is same text = absurd cc
-  words_of (reply.Query fault.ReadFailed name) is same text = absurd cc
-  words_of (reply.Query fault.TooLong name) is same text = absurd cc
-  words_of (reply.Query fault.NotBuilt name) is same text = absurd cc
-  words_of (reply.Syntax place) is same text = absurd cc
-  words_of (reply.Unsound fault) is same text = absurd cc
-  words_of (reply.Table fault.Absent name) is same text = absurd cc
-  words_of (reply.Table fault.ReadFailed name) is same text = absurd cc
-  words_of (reply.Table fault.TooLong name) is same text = absurd cc
-  words_of (reply.Table fault.NotBuilt name) is same text = absurd cc
-  words_of (reply.Answer fault.Absent name) is same text = absurd cc
-  words_of (reply.Answer fault.ReadFailed name) is same text = absurd cc
-  words_of (reply.Answer fault.TooLong name) is same text = absurd cc
-  words_of (reply.Answer fault.NotBuilt name) is same text = absurd cc
-  words_of (reply.Unreadable line) is same text = absurd cc
-  words_of (reply.Accepted objective) is same text = absurd cc
-  words_of (reply.Rejected reason part node) is same text = absurd cc
-  words_of (reply.Answered answer) is same text = by_verdict answer.verdict refl same
+  rejected_of_reply : (told : Reply) → IsReply words v told → status.Rejected ≡ status_of told → Appends before now (text_of told) → WroteRejected words v before now
+  rejected_of_reply (reply.Refused why) is same text = absurd ((not_refused why).3 (sym same))
+  rejected_of_reply (reply.TooWide name number) is same text = absurd cc
+  rejected_of_reply (reply.Accepted objective) is same text = absurd cc
+  rejected_of_reply (reply.Rejected reason part node) is same text =
+      let it = rejected_of words v reason part node is in
+      record { job = it.job; answer = it.answer; checks = it.checks; reason = reason; part = part; node = node; first = it.done; text = text }
+  rejected_of_reply (reply.Answered answer) is same text = by_verdict answer.verdict same
     where
-      by_verdict : (told : Verdict) → answer.verdict ≡ told → status.Words ≡ verdict_status told → form_of words ≡ None
-      by_verdict (verdict.Optimal objective worlds parts) at same = absurd cc
-      by_verdict (verdict.FalseRow row) at same = absurd cc
-      by_verdict (verdict.NoWorld part) at same = absurd cc
-      by_verdict (verdict.Unfinished nodes parts) at same = absurd cc
+      by_verdict : (told : Verdict) → status.Rejected ≡ verdict_status told → WroteRejected words v before now
+      by_verdict (verdict.Optimal objective worlds parts) same = absurd cc
+      by_verdict (verdict.FalseRow row) same = absurd cc
+      by_verdict (verdict.NoWorld part) same = absurd cc
+      by_verdict (verdict.Unfinished nodes parts) same = absurd cc
 
-  unread_of : (told : Reply) → IsReply words v told → status.Read ≡ status_of told → Appends before now (text_of told) → WroteUnread words v before now
-  unread_of reply.Words is same text = absurd cc
-  unread_of (reply.Query fault.Absent name) is same text = record { name = string_bytes name; why = fault.Absent; most = MOST_FILE_BYTES; limit = inl refl; cause = is.3; text = text }
-  unread_of (reply.Query fault.ReadFailed name) is same text = record { name = string_bytes name; why = fault.ReadFailed; most = MOST_FILE_BYTES; limit = inl refl; cause = is.3; text = text }
-  unread_of (reply.Query fault.TooLong name) is same text = record { name = string_bytes name; why = fault.TooLong; most = MOST_FILE_BYTES; limit = inl refl; cause = is.3; text = text }
-  unread_of (reply.Query fault.NotBuilt name) is same text = absurd cc
-  unread_of (reply.Syntax place) is same text = absurd cc
-  unread_of (reply.Unsound fault) is same text = absurd cc
-  unread_of (reply.Table fault.Absent name) is same text = record { name = string_bytes name; why = fault.Absent; most = MOST_FILE_BYTES; limit = inl refl; cause = is.4; text = text }
-  unread_of (reply.Table fault.ReadFailed name) is same text = record { name = string_bytes name; why = fault.ReadFailed; most = MOST_FILE_BYTES; limit = inl refl; cause = is.4; text = text }
-  unread_of (reply.Table fault.TooLong name) is same text = record { name = string_bytes name; why = fault.TooLong; most = MOST_FILE_BYTES; limit = inl refl; cause = is.4; text = text }
-  unread_of (reply.Table fault.NotBuilt name) is same text = absurd cc
-  unread_of (reply.Answer fault.Absent name) is same text = record { name = string_bytes name; why = fault.Absent; most = MOST_ANSWER_BYTES; limit = inr refl; cause = subst (λ (n : List ℕ). FileStops v MOST_ANSWER_BYTES n fault.Absent) (sym is.4.0) is.4.1; text = text }
-  unread_of (reply.Answer fault.ReadFailed name) is same text = record { name = string_bytes name; why = fault.ReadFailed; most = MOST_ANSWER_BYTES; limit = inr refl; cause = subst (λ (n : List ℕ). FileStops v MOST_ANSWER_BYTES n fault.ReadFailed) (sym is.4.0) is.4.1; text = text }
-  unread_of (reply.Answer fault.TooLong name) is same text = record { name = string_bytes name; why = fault.TooLong; most = MOST_ANSWER_BYTES; limit = inr refl; cause = subst (λ (n : List ℕ). FileStops v MOST_ANSWER_BYTES n fault.TooLong) (sym is.4.0) is.4.1; text = text }
-  unread_of (reply.Answer fault.NotBuilt name) is same text = absurd cc
-  unread_of (reply.Unreadable line) is same text = absurd cc
-  unread_of (reply.Accepted objective) is same text = absurd cc
-  unread_of (reply.Rejected reason part node) is same text = absurd cc
-  unread_of (reply.Answered answer) is same text = by_verdict answer.verdict refl same
+  -- at any other status that a refusal has, a refusal was told
+  refusal_of : (told : Status) (it : Reply) → IsReply words v it → told ≡ status_of it → told ≢ status.Done → told ≢ status.Impossible → told ≢ status.Unfinished → told ≢ status.Rejected → told ≢ status.Size → Appends before now (text_of it) → WroteRefusal words v before now told
+  refusal_of told (reply.Refused why) is same done none undone wrong wide text = record { why = why; status = sym same; comes = is; text = text }
+  refusal_of told (reply.TooWide name number) is same done none undone wrong wide text = absurd (wide same)
+  refusal_of told (reply.Accepted objective) is same done none undone wrong wide text = absurd (done same)
+  refusal_of told (reply.Rejected reason part node) is same done none undone wrong wide text = absurd (wrong same)
+  refusal_of told (reply.Answered answer) is same done none undone wrong wide text = by_verdict answer.verdict same
     where
-      by_verdict : (told : Verdict) → answer.verdict ≡ told → status.Read ≡ verdict_status told → WroteUnread words v before now
-      by_verdict (verdict.Optimal objective worlds parts) at same = absurd cc
-      by_verdict (verdict.FalseRow row) at same = absurd cc
-      by_verdict (verdict.NoWorld part) at same = absurd cc
-      by_verdict (verdict.Unfinished nodes parts) at same = absurd cc
+      by_verdict : (it : Verdict) → told ≡ verdict_status it → WroteRefusal words v before now told
+      by_verdict (verdict.Optimal objective worlds parts) same = absurd (done same)
+      by_verdict (verdict.FalseRow row) same = absurd (none same)
+      by_verdict (verdict.NoWorld part) same = absurd (none same)
+      by_verdict (verdict.Unfinished nodes parts) same = absurd (undone same)
 
-  no_query_of : (told : Reply) → IsReply words v told → status.Query ≡ status_of told → Appends before now (text_of told) → WroteRefusedQuery words v before now
-  no_query_of reply.Words is same text = absurd cc
-  no_query_of (reply.Query fault.Absent name) is same text = absurd cc
-  no_query_of (reply.Query fault.ReadFailed name) is same text = absurd cc
-  no_query_of (reply.Query fault.TooLong name) is same text = absurd cc
-  no_query_of (reply.Query fault.NotBuilt name) is same text = inr (inr (record { name = string_bytes name; folder = is.0; command = is.1; form = is.2; bytes = is.3.0; held = is.3.1; unbuilt = is.3.3; text = text }))
-  no_query_of (reply.Syntax place) is same text = inl (record { name = is.0; folder = is.1; command = is.2; form = is.3; bytes = is.4.0; held = is.4.1; place = place; stop = is.4.3; text = text })
-  no_query_of (reply.Unsound fault) is same text = inr (inl (record { name = is.0; folder = is.1; command = is.2; form = is.3; bytes = is.4.0; held = is.4.1; fault = fault; broken = is.4.3; text = text }))
-  no_query_of (reply.Table fault.Absent name) is same text = absurd cc
-  no_query_of (reply.Table fault.ReadFailed name) is same text = absurd cc
-  no_query_of (reply.Table fault.TooLong name) is same text = absurd cc
-  no_query_of (reply.Table fault.NotBuilt name) is same text = absurd cc
-  no_query_of (reply.Answer fault.Absent name) is same text = absurd cc
-  no_query_of (reply.Answer fault.ReadFailed name) is same text = absurd cc
-  no_query_of (reply.Answer fault.TooLong name) is same text = absurd cc
-  no_query_of (reply.Answer fault.NotBuilt name) is same text = absurd cc
-  no_query_of (reply.Unreadable line) is same text = absurd cc
-  no_query_of (reply.Accepted objective) is same text = absurd cc
-  no_query_of (reply.Rejected reason part node) is same text = absurd cc
-  no_query_of (reply.Answered answer) is same text = by_verdict answer.verdict refl same
+  size_of : (it : Reply) → IsReply words v it → status.Size ≡ status_of it → Appends before now (text_of it) → WroteRefusal words v before now status.Size ⊎ WroteWide words v before now
+  size_of (reply.Refused why) is same text = inl (record { why = why; status = sym same; comes = is; text = text })
+  size_of (reply.TooWide name number) is same text = inr (record { job = is.0; work = is.1; name = name; number = number; cause = wide_of is.0 is.0.task name number is.2; text = text })
+  size_of (reply.Accepted objective) is same text = absurd cc
+  size_of (reply.Rejected reason part node) is same text = absurd cc
+  size_of (reply.Answered answer) is same text = by_verdict answer.verdict same
     where
-      by_verdict : (told : Verdict) → answer.verdict ≡ told → status.Query ≡ verdict_status told → WroteRefusedQuery words v before now
-      by_verdict (verdict.Optimal objective worlds parts) at same = absurd cc
-      by_verdict (verdict.FalseRow row) at same = absurd cc
-      by_verdict (verdict.NoWorld part) at same = absurd cc
-      by_verdict (verdict.Unfinished nodes parts) at same = absurd cc
+      by_verdict : (it : Verdict) → status.Size ≡ verdict_status it → WroteRefusal words v before now status.Size ⊎ WroteWide words v before now
+      by_verdict (verdict.Optimal objective worlds parts) same = absurd cc
+      by_verdict (verdict.FalseRow row) same = absurd cc
+      by_verdict (verdict.NoWorld part) same = absurd cc
+      by_verdict (verdict.Unfinished nodes parts) same = absurd cc
 
-  no_table_of : (told : Reply) → IsReply words v told → status.Tables ≡ status_of told → Appends before now (text_of told) → WroteNoTable words v before now
-  no_table_of reply.Words is same text = absurd cc
-  no_table_of (reply.Query fault.Absent name) is same text = absurd cc
-  no_table_of (reply.Query fault.ReadFailed name) is same text = absurd cc
-  no_table_of (reply.Query fault.TooLong name) is same text = absurd cc
-  no_table_of (reply.Query fault.NotBuilt name) is same text = absurd cc
-  no_table_of (reply.Syntax place) is same text = absurd cc
-  no_table_of (reply.Unsound fault) is same text = absurd cc
-  no_table_of (reply.Table fault.Absent name) is same text = absurd cc
-  no_table_of (reply.Table fault.ReadFailed name) is same text = absurd cc
-  no_table_of (reply.Table fault.TooLong name) is same text = absurd cc
-  no_table_of (reply.Table fault.NotBuilt name) is same text = record { query = is.1; folder = is.0; asks = is.2; bytes = is.4.0; held = subst (λ (n : List ℕ). Holds v n is.4.0) is.3 is.4.1; none = is.4.3; text = subst (λ (n : List ℕ). Appends before now (fault_line fault.NotBuilt n)) is.3 text }
-  no_table_of (reply.Answer fault.Absent name) is same text = absurd cc
-  no_table_of (reply.Answer fault.ReadFailed name) is same text = absurd cc
-  no_table_of (reply.Answer fault.TooLong name) is same text = absurd cc
-  no_table_of (reply.Answer fault.NotBuilt name) is same text = absurd cc
-  no_table_of (reply.Unreadable line) is same text = absurd cc
-  no_table_of (reply.Accepted objective) is same text = absurd cc
-  no_table_of (reply.Rejected reason part node) is same text = absurd cc
-  no_table_of (reply.Answered answer) is same text = by_verdict answer.verdict refl same
-    where
-      by_verdict : (told : Verdict) → answer.verdict ≡ told → status.Tables ≡ verdict_status told → WroteNoTable words v before now
-      by_verdict (verdict.Optimal objective worlds parts) at same = absurd cc
-      by_verdict (verdict.FalseRow row) at same = absurd cc
-      by_verdict (verdict.NoWorld part) at same = absurd cc
-      by_verdict (verdict.Unfinished nodes parts) at same = absurd cc
+module _ (words : List (List ℕ)) (v : Visit) (before now : Option (List ℕ)) (faults faults' : ℕ) where
+  pub done_says : Leaves words v before now faults faults' status.Done → WroteBest words v before now ⊎ WroteAccepted words v before now
+  done_says left = done_of words v before now left.reply left.cause left.same left.text
 
-  rejected_of : (told : Reply) → IsReply words v told → status.Rejected ≡ status_of told → Appends before now (text_of told) → WroteRejected words v before now
-  rejected_of reply.Words is same text = absurd cc
-  rejected_of (reply.Query fault.Absent name) is same text = absurd cc
-  rejected_of (reply.Query fault.ReadFailed name) is same text = absurd cc
-  rejected_of (reply.Query fault.TooLong name) is same text = absurd cc
-  rejected_of (reply.Query fault.NotBuilt name) is same text = absurd cc
-  rejected_of (reply.Syntax place) is same text = absurd cc
-  rejected_of (reply.Unsound fault) is same text = absurd cc
-  rejected_of (reply.Table fault.Absent name) is same text = absurd cc
-  rejected_of (reply.Table fault.ReadFailed name) is same text = absurd cc
-  rejected_of (reply.Table fault.TooLong name) is same text = absurd cc
-  rejected_of (reply.Table fault.NotBuilt name) is same text = absurd cc
-  rejected_of (reply.Answer fault.Absent name) is same text = absurd cc
-  rejected_of (reply.Answer fault.ReadFailed name) is same text = absurd cc
-  rejected_of (reply.Answer fault.TooLong name) is same text = absurd cc
-  rejected_of (reply.Answer fault.NotBuilt name) is same text = absurd cc
-  rejected_of (reply.Unreadable line) is same text = absurd cc
-  rejected_of (reply.Accepted objective) is same text = absurd cc
-  rejected_of (reply.Rejected reason part node) is same text = record { query = is.0; rows = is.1; name = is.2; audits = is.3; answer = is.4.0; reads = is.4.1; reason = reason; part = part; node = node; first = is.4.2; text = text }
-  rejected_of (reply.Answered answer) is same text = by_verdict answer.verdict refl same
-    where
-      by_verdict : (told : Verdict) → answer.verdict ≡ told → status.Rejected ≡ verdict_status told → WroteRejected words v before now
-      by_verdict (verdict.Optimal objective worlds parts) at same = absurd cc
-      by_verdict (verdict.FalseRow row) at same = absurd cc
-      by_verdict (verdict.NoWorld part) at same = absurd cc
-      by_verdict (verdict.Unfinished nodes parts) at same = absurd cc
+  pub none_says : Leaves words v before now faults faults' status.Impossible → WroteNone words v before now
+  none_says left = none_of words v before now left.reply left.cause left.same left.text
 
-  unreadable_of : (told : Reply) → IsReply words v told → status.Unreadable ≡ status_of told → Appends before now (text_of told) → WroteUnreadable words v before now
-  unreadable_of reply.Words is same text = absurd cc
-  unreadable_of (reply.Query fault.Absent name) is same text = absurd cc
-  unreadable_of (reply.Query fault.ReadFailed name) is same text = absurd cc
-  unreadable_of (reply.Query fault.TooLong name) is same text = absurd cc
-  unreadable_of (reply.Query fault.NotBuilt name) is same text = absurd cc
-  unreadable_of (reply.Syntax place) is same text = absurd cc
-  unreadable_of (reply.Unsound fault) is same text = absurd cc
-  unreadable_of (reply.Table fault.Absent name) is same text = absurd cc
-  unreadable_of (reply.Table fault.ReadFailed name) is same text = absurd cc
-  unreadable_of (reply.Table fault.TooLong name) is same text = absurd cc
-  unreadable_of (reply.Table fault.NotBuilt name) is same text = absurd cc
-  unreadable_of (reply.Answer fault.Absent name) is same text = absurd cc
-  unreadable_of (reply.Answer fault.ReadFailed name) is same text = absurd cc
-  unreadable_of (reply.Answer fault.TooLong name) is same text = absurd cc
-  unreadable_of (reply.Answer fault.NotBuilt name) is same text = absurd is.4.1
-  unreadable_of (reply.Unreadable line) is same text = record { query = is.0; rows = is.1; name = is.2; audits = is.3; line = line; cause = is.4; text = text }
-  unreadable_of (reply.Accepted objective) is same text = absurd cc
-  unreadable_of (reply.Rejected reason part node) is same text = absurd cc
-  unreadable_of (reply.Answered answer) is same text = by_verdict answer.verdict refl same
-    where
-      by_verdict : (told : Verdict) → answer.verdict ≡ told → status.Unreadable ≡ verdict_status told → WroteUnreadable words v before now
-      by_verdict (verdict.Optimal objective worlds parts) at same = absurd cc
-      by_verdict (verdict.FalseRow row) at same = absurd cc
-      by_verdict (verdict.NoWorld part) at same = absurd cc
-      by_verdict (verdict.Unfinished nodes parts) at same = absurd cc
+  pub unfinished_says : Leaves words v before now faults faults' status.Unfinished → WroteUnfinished words v before now
+  unfinished_says left = unfinished_of words v before now left.reply left.cause left.same left.text
 
-  module _ (faults faults' : ℕ) (told : Status) (all : Leaves words v before now faults faults' told) where
-    at : (one : Status) → told ≡ one → Leaves words v before now faults faults' one
-    at one same = subst (λ (x : Status). Leaves words v before now faults faults' x) same all
+  pub rejected_says : Leaves words v before now faults faults' status.Rejected → WroteRejected words v before now
+  rejected_says left = rejected_of_reply words v before now left.reply left.cause left.same left.text
 
-    pub done_says : told ≡ status.Done → WroteBest words v before now ⊎ WroteAccepted words v before now
-    done_says same = let w = at status.Done same in done_of w.reply w.cause w.same w.text
+  pub size_says : Leaves words v before now faults faults' status.Size → WroteRefusal words v before now status.Size ⊎ WroteWide words v before now
+  size_says left = size_of words v before now left.reply left.cause left.same left.text
 
-    pub impossible_says : told ≡ status.Impossible → WroteNone words v before now
-    impossible_says same = let w = at status.Impossible same in none_of w.reply w.cause w.same w.text
+  pub write_says : Leaves words v before now faults faults' status.Write → Rose faults faults'
+  write_says left = left.rose
 
-    pub unfinished_says : told ≡ status.Unfinished → WroteUnfinished words v before now
-    unfinished_says same = let w = at status.Unfinished same in unfinished_of w.reply w.cause w.same w.text
+  plain_says : (told : Status) → told ≢ status.Done → told ≢ status.Impossible → told ≢ status.Unfinished → told ≢ status.Rejected → told ≢ status.Size → Wrote words v before now faults faults' told → WroteRefusal words v before now told
+  plain_says told done none undone wrong wide left = refusal_of words v before now told left.reply left.cause left.same done none undone wrong wide left.text
 
-    pub words_says : told ≡ status.Words → form_of words ≡ None
-    words_says same = let w = at status.Words same in words_of w.reply w.cause w.same w.text
+  moved : (told other : Status) → told ≡ other → (Leaves words v before now faults faults' other → WroteRefusal words v before now other) → Leaves words v before now faults faults' told → WroteRefusal words v before now told
+  moved told other e says left = subst (λ (s : Status). WroteRefusal words v before now s) (sym e) (says (subst (λ (s : Status). Leaves words v before now faults faults' s) e left))
 
-    pub read_says : told ≡ status.Read → WroteUnread words v before now
-    read_says same = let w = at status.Read same in unread_of w.reply w.cause w.same w.text
-
-    pub query_says : told ≡ status.Query → WroteRefusedQuery words v before now
-    query_says same = let w = at status.Query same in no_query_of w.reply w.cause w.same w.text
-
-    pub tables_says : told ≡ status.Tables → WroteNoTable words v before now
-    tables_says same = let w = at status.Tables same in no_table_of w.reply w.cause w.same w.text
-
-    pub rejected_says : told ≡ status.Rejected → WroteRejected words v before now
-    rejected_says same = let w = at status.Rejected same in rejected_of w.reply w.cause w.same w.text
-
-    pub unreadable_says : told ≡ status.Unreadable → WroteUnreadable words v before now
-    unreadable_says same = let w = at status.Unreadable same in unreadable_of w.reply w.cause w.same w.text
-
-    pub write_says : told ≡ status.Write → Rose faults faults'
-    write_says same = let w = at status.Write same in w.rose
+  pub refusal_says : (told : Status) → Leaves words v before now faults faults' told → (told ≡ status.Words) ⊎ ((told ≡ status.Query) ⊎ ((told ≡ status.Tables) ⊎ ((told ≡ status.Read) ⊎ (told ≡ status.Unreadable)))) → WroteRefusal words v before now told
+  refusal_says told left (inl e) = moved told status.Words e (λ l. plain_says status.Words (λ e. cc) (λ e. cc) (λ e. cc) (λ e. cc) (λ e. cc) l) left
+  refusal_says told left (inr (inl e)) = moved told status.Query e (λ l. plain_says status.Query (λ e. cc) (λ e. cc) (λ e. cc) (λ e. cc) (λ e. cc) l) left
+  refusal_says told left (inr (inr (inl e))) = moved told status.Tables e (λ l. plain_says status.Tables (λ e. cc) (λ e. cc) (λ e. cc) (λ e. cc) (λ e. cc) l) left
+  refusal_says told left (inr (inr (inr (inl e)))) = moved told status.Read e (λ l. plain_says status.Read (λ e. cc) (λ e. cc) (λ e. cc) (λ e. cc) (λ e. cc) l) left
+  refusal_says told left (inr (inr (inr (inr e)))) = moved told status.Unreadable e (λ l. plain_says status.Unreadable (λ e. cc) (λ e. cc) (λ e. cc) (λ e. cc) (λ e. cc) l) left

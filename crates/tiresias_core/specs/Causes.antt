@@ -1,161 +1,97 @@
--- Why each reply comes.
-use Rattle.std.specs.Prelude.{◌≡◌, ◌≤◌, length, ℕ, List, Some, None, Ok, Err, string_bytes}
-use Rattle.tiql_read.specs.declared.query.FirstQuery.{FirstQuery}
-use Rattle.base_kit.specs.declared.place.Place.{Place}
-use Rattle.tiql_tree.specs.declared.tree.Tree.{Tree}
-use Rattle.tiql_tree.specs.Spelled.{Spelled, IsStop as IsSyntaxStop}
-use Rattle.tiql_query.specs.declared.query.Query.{Query}
-use Rattle.tiql_check.specs.declared.fault.SoundFault.{SoundFault}
-use Rattle.tiql_check.specs.Sound.{Sound, FirstBroken}
-use Rattle.tiresias_core.specs.FirstTrees.{IsFirstTree, IsFirstText}
-use Rattle.tables_csv.specs.Tables.{IsFirstTable}
-use Rattle.world_def.specs.First.{Rows}
-use Rattle.answer_text.specs.Answers.{AnswerText, IsStop, line_of}
-use Rattle.answer_text.specs.declared.answer.Answer.{Answer}
+-- why each reply comes
+use Rattle.std.specs.Prelude.{◌≡◌, ◌⊎◌, ℕ, ℤ, List, [], option_map, unwrap_or, slice_get, Ok, Err}
 use Rattle.cert_check.specs.Reasons.{IsOutcome}
 use Rattle.cert_check.specs.declared.fault.CheckFault.TheVariants as wrong
-use Rattle.first_listing.specs.Parts.{Answers}
-use Rattle.tiresias_core.specs.Words.{Command, solve, check, form_of, table_path}
-use Rattle.tiresias_core.specs.Visits.{Visit, Holds, IsAbsent, IsFailed, IsLong}
+use Rattle.answer_text.specs.declared.answer.Answer.{Answer}
+use Rattle.job_intake.specs.declared.job.Job.{Job}
+use Rattle.job_intake.specs.declared.job.Task.{Task}
+use Rattle.job_intake.specs.declared.job.Task.TheVariants as task
+use Rattle.job_intake.specs.declared.refusal.Refusal.{Refusal}
+use Rattle.job_intake.specs.declared.refusal.Refusal.TheVariants as refusal
+use Rattle.job_intake.specs.declared.refusal.FileFault.TheVariants as fault
+use Rattle.job_intake.specs.Jobs.{Comes}
+use Rattle.job_intake.specs.Ready.{IsReady}
+use Rattle.job_intake.specs.Visits.{Visit}
+use Rattle.tiql_query.specs.declared.query.Query.{Query}
+use Rattle.tiql_query.specs.declared.relation.Source.{Source}
+use Rattle.tiql_query.specs.declared.relation.Source.TheVariants as sources
+use Rattle.world_def.specs.declared.fault.EvalFault.{EvalFault}
+use Rattle.world_def.specs.declared.fault.EvalFault.TheVariants as eval
+use Rattle.world_listing.specs.Faults.{FaultsIn}
+use Rattle.world_listing.specs.Parts.{Answers}
 use Rattle.tiresias_core.specs.Verdicts.{objective_of}
-use Rattle.tiresias_core.specs.declared.fetch.TheConstants.{MOST_FILE_BYTES, MOST_ANSWER_BYTES}
-use Rattle.tiresias_core.specs.declared.fetch.Stop.{Stop}
-use Rattle.tiresias_core.specs.declared.fetch.Stop.TheVariants as stop
 use Rattle.tiresias_core.specs.declared.reply.Reply.{Reply}
 use Rattle.tiresias_core.specs.declared.reply.Reply.TheVariants as reply
-use Rattle.tiresias_core.specs.declared.reply.FileFault.{FileFault}
-use Rattle.tiresias_core.specs.declared.reply.FileFault.TheVariants as fault
 
--- a file that may have so many bytes is not to be had
-abbrev pub FileStops : Visit → ℕ → List ℕ → FileFault → Type 0
-FileStops v most name fault.Absent = IsAbsent v name
-FileStops v most name fault.ReadFailed = IsFailed v
-FileStops v most name fault.TooLong = IsLong v name most
-FileStops v most name fault.NotBuilt = ⊥
+-- the name of a relation
+unfoldable pub name_of : Query → Source → List ℕ
+name_of query (sources.Table n) = unwrap_or (option_map (λ table. table.name) (slice_get query.tables n)) []
+name_of query (sources.Hypo n) = unwrap_or (option_map (λ hypo. hypo.name) (slice_get query.hypos n)) []
+name_of query (sources.View n) = unwrap_or (option_map (λ view. view.name) (slice_get query.views n)) []
 
-abbrev pub StopsFetch : Visit → ℕ → List ℕ → Stop → Type 0
-StopsFetch v most name (stop.Fault fault) = FileStops v most name fault
-StopsFetch v most name stop.Memory = Unit {0}
+-- the words and the files come to this job
+pub record IsWork (words : List (List ℕ)) (v : Visit) (job : Job) : Type 0 where
+  pub comes : Comes words v (Ok job)
+  pub ready : IsReady job
 
--- the bytes spell a tree that is sound, and it is that of no first text
-abbrev pub IsUnbuilt : List ℕ → Type 0
-IsUnbuilt bytes = (tree : Tree) × Spelled bytes tree × ((checked : Query) × Sound tree checked) × ((query : FirstQuery) → IsFirstTree tree query → ⊥)
+-- to be solved within so many nodes
+pub record Solves (words : List (List ℕ)) (v : Visit) (job : Job) (nodes : ℕ) : Type 0 where
+  pub work : IsWork words v job
+  pub task : job.task ≡ task.Solve nodes
 
--- the bytes spell a tree, and this is the rule of soundness that it breaks first
-abbrev pub IsUnsound : List ℕ → SoundFault → Type 0
-IsUnsound bytes fault = (tree : Tree) × Spelled bytes tree × FirstBroken tree fault
+-- of which this answer is to be checked
+pub record Checks (words : List (List ℕ)) (v : Visit) (job : Job) (answer : Answer) : Type 0 where
+  pub work : IsWork words v job
+  pub task : job.task ≡ task.Check answer
 
--- the query's file is not to be had, or spells a sound tree that is that of no first text
-abbrev pub QueryStops : Visit → List ℕ → FileFault → Type 0
-QueryStops v name fault.Absent = FileStops v MOST_FILE_BYTES name fault.Absent
-QueryStops v name fault.ReadFailed = FileStops v MOST_FILE_BYTES name fault.ReadFailed
-QueryStops v name fault.TooLong = FileStops v MOST_FILE_BYTES name fault.TooLong
-QueryStops v name fault.NotBuilt = (bytes : List ℕ) × Holds v name bytes × (length bytes ≤ MOST_FILE_BYTES) × IsUnbuilt bytes
+-- a value over the relation of this name is too large: while the worlds are listed
+abbrev pub PassesListed : Job → ℕ → List ℕ → ℤ → Type 0
+PassesListed job nodes name number = (source : Source) × FaultsIn job.query job.tables job.columns nodes (eval.Wide source number) × (name ≡ name_of job.query source)
 
--- the query's file spells no tree, and stops at this place
-abbrev pub SyntaxStops : Visit → List ℕ → Place → Type 0
-SyntaxStops v name place = (bytes : List ℕ) × Holds v name bytes × (length bytes ≤ MOST_FILE_BYTES) × IsSyntaxStop bytes place
+-- or while the answer is checked
+abbrev pub PassesChecked : Job → Answer → List ℕ → ℤ → Type 0
+PassesChecked job answer name number = (source : Source) × IsOutcome job.query job.tables job.columns answer (Err (wrong.Wide source number)) × (name ≡ name_of job.query source)
 
--- the query's file spells a tree that breaks this rule first
-abbrev pub SoundStops : Visit → List ℕ → SoundFault → Type 0
-SoundStops v name fault = (bytes : List ℕ) × Holds v name bytes × (length bytes ≤ MOST_FILE_BYTES) × IsUnsound bytes fault
+abbrev pub Passes : Job → Task → List ℕ → ℤ → Type 0
+Passes job (task.Solve nodes) name number = PassesListed job nodes name number
+Passes job (task.Check answer) name number = PassesChecked job answer name number
 
--- the table's file is not to be had, or is no first table with the query's columns
-abbrev pub TableStops : Visit → FirstQuery → List ℕ → FileFault → Type 0
-TableStops v query name fault.Absent = FileStops v MOST_FILE_BYTES name fault.Absent
-TableStops v query name fault.ReadFailed = FileStops v MOST_FILE_BYTES name fault.ReadFailed
-TableStops v query name fault.TooLong = FileStops v MOST_FILE_BYTES name fault.TooLong
-TableStops v query name fault.NotBuilt = (bytes : List ℕ) × Holds v name bytes × (length bytes ≤ MOST_FILE_BYTES) × ((rows : Rows) → IsFirstTable bytes query.columns rows → ⊥)
+-- what is answered where worlds are listed within so many nodes
+abbrev pub IsSolved : Job → ℕ → Reply → Type 0
+IsSolved job nodes (reply.Refused why) = ⊥
+IsSolved job nodes (reply.Answered answer) = Answers job.query job.tables job.columns nodes answer
+IsSolved job nodes (reply.TooWide name number) = PassesListed job nodes name number
+IsSolved job nodes (reply.Accepted objective) = ⊥
+IsSolved job nodes (reply.Rejected reason part node) = ⊥
 
--- the words ask this query of this folder
-pub record Asks (words : List (List ℕ)) (v : Visit) (folder : List ℕ) (query : FirstQuery) : Type 0 where
-  pub name : List ℕ
-  pub command : Command
-  pub form : form_of words ≡ Some (name, folder, command)
-  pub bytes : List ℕ
-  pub held : Holds v name bytes
-  pub short : length bytes ≤ MOST_FILE_BYTES
-  pub spelled : IsFirstText bytes query
+-- and where an answer is checked
+abbrev pub IsChecked : Job → Answer → Reply → Type 0
+IsChecked job answer (reply.Refused why) = ⊥
+IsChecked job answer (reply.Answered other) = ⊥
+IsChecked job answer (reply.TooWide name number) = PassesChecked job answer name number
+IsChecked job answer (reply.Accepted objective) = IsOutcome job.query job.tables job.columns answer (Ok tt) × (objective ≡ objective_of answer.verdict)
+IsChecked job answer (reply.Rejected reason part node) = IsOutcome job.query job.tables job.columns answer (Err (wrong.Rejected reason part node))
 
--- nothing is refused: the query is asked, and these are the table's rows
-pub record Accepted (words : List (List ℕ)) (v : Visit) (query : FirstQuery) (rows : Rows) : Type 0 where
-  pub folder : List ℕ
-  pub asks : Asks words v folder query
-  pub bytes : List ℕ
-  pub held : Holds v (table_path folder query.table) bytes
-  pub short : length bytes ≤ MOST_FILE_BYTES
-  pub table : IsFirstTable bytes query.columns rows
+abbrev pub IsDoneFor : Job → Task → Reply → Type 0
+IsDoneFor job (task.Solve nodes) = IsSolved job nodes
+IsDoneFor job (task.Check answer) = IsChecked job answer
 
--- no fetch failed, unless that is the fault
-abbrev pub KeepsFaults : ℕ → ℕ → FileFault → Type 0
-KeepsFaults before now fault.Absent = now ≡ before
-KeepsFaults before now fault.ReadFailed = Unit {0}
-KeepsFaults before now fault.TooLong = now ≡ before
-KeepsFaults before now fault.NotBuilt = now ≡ before
-
-abbrev pub KeepsStop : ℕ → ℕ → Stop → Type 0
-KeepsStop before now (stop.Fault fault) = KeepsFaults before now fault
-KeepsStop before now stop.Memory = now ≡ before
-
--- no fetch failed, unless the reply tells it
-abbrev pub NoneFailed : ℕ → ℕ → Reply → Type 0
-NoneFailed before now reply.Words = now ≡ before
-NoneFailed before now (reply.Query fault name) = KeepsFaults before now fault
-NoneFailed before now (reply.Syntax place) = now ≡ before
-NoneFailed before now (reply.Unsound fault) = now ≡ before
-NoneFailed before now (reply.Table fault name) = KeepsFaults before now fault
-NoneFailed before now (reply.Answered answer) = now ≡ before
-NoneFailed before now (reply.Answer fault name) = KeepsFaults before now fault
-NoneFailed before now (reply.Unreadable line) = now ≡ before
-NoneFailed before now (reply.Accepted objective) = now ≡ before
-NoneFailed before now (reply.Rejected reason part node) = now ≡ before
-
--- the file of this name holds the text of this answer
-pub record Reads (v : Visit) (name : List ℕ) (answer : Answer) : Type 0 where
-  pub bytes : List ℕ
-  pub held : Holds v name bytes
-  pub short : length bytes ≤ MOST_ANSWER_BYTES
-  pub spelled : AnswerText answer bytes
-
--- the file of this name holds no answer's text, and this is the line of the first byte with which it begins none
-pub record IsUnreadable (v : Visit) (name : List ℕ) (line : ℕ) : Type 0 where
-  pub bytes : List ℕ
-  pub held : Holds v name bytes
-  pub short : length bytes ≤ MOST_ANSWER_BYTES
-  pub none : (answer : Answer) → AnswerText answer bytes → ⊥
-  pub at : (count : ℕ) → IsStop bytes count → line ≡ line_of bytes count
-
--- why each reply comes to a check of the answer of this name, for a query over the rows of its table
-abbrev pub IsAudit : Visit → FirstQuery → Rows → List ℕ → Reply → Type 0
-IsAudit v query rows name reply.Words = ⊥
-IsAudit v query rows name (reply.Query fault at) = ⊥
-IsAudit v query rows name (reply.Syntax place) = ⊥
-IsAudit v query rows name (reply.Unsound fault) = ⊥
-IsAudit v query rows name (reply.Table fault at) = ⊥
-IsAudit v query rows name (reply.Answered answer) = ⊥
-IsAudit v query rows name (reply.Answer fault at) = (string_bytes at ≡ name) × FileStops v MOST_ANSWER_BYTES name fault
-IsAudit v query rows name (reply.Unreadable line) = IsUnreadable v name line
-IsAudit v query rows name (reply.Accepted objective) = (answer : Answer) × Reads v name answer × IsOutcome query rows answer (Ok tt) × (objective ≡ objective_of answer.verdict)
-IsAudit v query rows name (reply.Rejected reason part node) = (answer : Answer) × Reads v name answer × IsOutcome query rows answer (Err (wrong.Rejected reason part node))
-
--- nothing is refused, and the answer of this name is to be checked
-pub record Audits (words : List (List ℕ)) (v : Visit) (query : FirstQuery) (rows : Rows) (name : List ℕ) : Type 0 where
-  pub accepted : Accepted words v query rows
-  pub checks : accepted.asks.command ≡ check name
-
--- a reply to a check with its cause
-abbrev pub IsAudited : List (List ℕ) → Visit → Reply → Type 0
-IsAudited words v told = (query : FirstQuery) × (rows : Rows) × (name : List ℕ) × Audits words v query rows name × IsAudit v query rows name told
+-- a job is done
+abbrev pub IsDone : Job → Reply → Type 0
+IsDone job = IsDoneFor job job.task
 
 -- why each reply comes, with all that stands before it
 abbrev pub IsReply : List (List ℕ) → Visit → Reply → Type 0
-IsReply words v reply.Words = form_of words ≡ None
-IsReply words v (reply.Query fault name) = (folder : List ℕ) × (command : Command) × (form_of words ≡ Some (string_bytes name, folder, command)) × QueryStops v (string_bytes name) fault
-IsReply words v (reply.Syntax place) = (name : List ℕ) × (folder : List ℕ) × (command : Command) × (form_of words ≡ Some (name, folder, command)) × SyntaxStops v name place
-IsReply words v (reply.Unsound fault) = (name : List ℕ) × (folder : List ℕ) × (command : Command) × (form_of words ≡ Some (name, folder, command)) × SoundStops v name fault
-IsReply words v (reply.Table fault name) = (folder : List ℕ) × (query : FirstQuery) × Asks words v folder query × (string_bytes name ≡ table_path folder query.table) × TableStops v query (string_bytes name) fault
-IsReply words v (reply.Answered answer) = (query : FirstQuery) × (rows : Rows) × (accepted : Accepted words v query rows) × (nodes : ℕ) × (accepted.asks.command ≡ solve nodes) × Answers query rows nodes answer
-IsReply words v (reply.Answer fault name) = IsAudited words v (reply.Answer fault name)
-IsReply words v (reply.Unreadable line) = IsAudited words v (reply.Unreadable line)
-IsReply words v (reply.Accepted objective) = IsAudited words v (reply.Accepted objective)
-IsReply words v (reply.Rejected reason part node) = IsAudited words v (reply.Rejected reason part node)
+IsReply words v (reply.Refused why) = Comes words v (Err why)
+IsReply words v (reply.Answered answer) = (job : Job) × IsWork words v job × IsDone job (reply.Answered answer)
+IsReply words v (reply.TooWide name number) = (job : Job) × IsWork words v job × IsDone job (reply.TooWide name number)
+IsReply words v (reply.Accepted objective) = (job : Job) × IsWork words v job × IsDone job (reply.Accepted objective)
+IsReply words v (reply.Rejected reason part node) = (job : Job) × IsWork words v job × IsDone job (reply.Rejected reason part node)
+
+-- no fetch failed, unless the reply tells it
+abbrev pub KeepsFaults : Reply → ℕ → ℕ → Type 0
+KeepsFaults (reply.Refused why) before now = ((name : List ℕ) × (why ≡ refusal.File name fault.ReadFailed)) ⊎ (now ≡ before)
+KeepsFaults (reply.Answered answer) before now = now ≡ before
+KeepsFaults (reply.TooWide name number) before now = now ≡ before
+KeepsFaults (reply.Accepted objective) before now = now ≡ before
+KeepsFaults (reply.Rejected reason part node) before now = now ≡ before

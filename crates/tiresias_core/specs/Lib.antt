@@ -1,15 +1,8 @@
-pub mod Asking
 pub mod Causes
 pub mod Exact
-pub mod FirstReading
-pub mod FirstResolving
-pub mod FirstTrees
-pub mod FirstViews
-pub mod Forms
+pub mod Lines
 pub mod Pieces
 pub mod Replies
 pub mod Results
 pub mod Runs
 pub mod Verdicts
-pub mod Visits
-pub mod Words

@@ -6,7 +6,7 @@ use Rattle.base_kit.specs.declared.status.Status.TheVariants as status
 use Rattle.outside_io.specs.Counts.{Rose}
 use Rattle.tiresias_core.specs.Causes.{IsReply}
 use Rattle.tiresias_core.specs.Replies.{status_of, text_of}
-use Rattle.tiresias_core.specs.Visits.{Visit}
+use Rattle.job_intake.specs.Visits.{Visit}
 use Rattle.tiresias_core.specs.declared.reply.Reply.{Reply}
 
 -- a reply with its cause was written whole

@@ -1,6 +1,5 @@
 //! A text to the sink, in pieces.
 
-ghost use Rattle.std.specs.Prelude.{◌≡◌};
 ghost use Rattle.outside_io.specs.Sinks.{Counts};
 ghost use Rattle.tiresias_core.specs.Pieces.{WritesText};
 

@@ -3,9 +3,7 @@ pub mod Choices
 pub mod Evaluate
 pub mod Judging
 pub mod NumberWalks
-pub mod Places
 pub mod Restored
-pub mod Rows
 pub mod Runs
 pub mod Told
 pub mod Turns

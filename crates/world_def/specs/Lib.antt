@@ -1,10 +1,8 @@
 pub mod Asked
 pub mod Best
 pub mod Columns
-pub mod First
 pub mod Judging
 pub mod Meaning
-pub mod Places
 pub mod Steps
 pub mod Turns
 pub mod Values

@@ -5,23 +5,20 @@ mod columns;
 mod condition;
 mod expression;
 mod fault;
-mod first;
-pub mod judge;
-pub mod numbers;
+mod judge;
+mod numbers;
 mod part;
-mod possible;
-mod value;
 mod world;
-pub mod worlds;
+mod worlds;
 
 pub use columns::{Tables, rows_of, world_columns};
 pub use condition::truth;
 pub use expression::number;
 pub use fault::{BoundsFault, EvalFault, Wide};
-pub use first::{compares, filled, number_at, number_with};
-pub use possible::{is_possible, root_of};
-pub use value::{meets, score, value_at};
+pub use judge::{Broken, meets, score};
+pub use numbers::{numbers_of, world_at};
 pub use world::{World, WorldTable};
+pub use worlds::is_possible;
 
 #[cfg(test)]
 mod tests;

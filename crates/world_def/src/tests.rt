@@ -2,10 +2,10 @@
 
 ghost use Rattle.std.specs.Prelude.{◌≡◌, ◌≤◌, length, All, IfOk};
 
-use crate::judge::{Broken, meets, score};
-use crate::numbers::{numbers_of, world_at};
-use crate::worlds::is_possible;
-use crate::{BoundsFault, Tables, Wide, number, world_columns};
+use crate::{
+    BoundsFault, Broken, Tables, Wide, is_possible, meets, number, numbers_of, score, world_at,
+    world_columns,
+};
 use base_kit::{Duplicate, List, Name, Row, Value};
 use std::alloc::Global;
 use std::test::Fail;

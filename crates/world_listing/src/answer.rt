@@ -19,14 +19,13 @@ use branch_tree::Branches;
 use ip_rows::Bounds;
 use std::alloc::Global;
 use tiql_query::{Aim, Query, WorldColumn};
-use world_def::Tables;
-use world_def::numbers::world_at;
+use world_def::{Tables, world_at};
 use world_points::{PointFault, sides_of};
 
 /// The answer to a query over its tables, with a budget of worked nodes: the worlds are listed (docs/ANSWERS.md).
 ///
-/// The query is checked and has no view, the columns are those of `world_columns` for the same query and tables, and
-/// `budget` is at least 1. The fault is that of the first listed world that has one.
+/// The query is checked and has no view, and the columns are those of `world_columns` for the same query and tables. The
+/// fault is that of the first listed world that has one.
 pub fn answer_listed(
     alloc: Global,
     query: &Query,

@@ -9,10 +9,7 @@ use crate::fault::PointFault;
 use base_kit::{List, Memory};
 use std::alloc::Global;
 use tiql_query::{Aim, Query, WorldColumn};
-use world_def::judge::{meets, score};
-use world_def::numbers::{numbers_of, world_at};
-use world_def::worlds::is_possible;
-use world_def::{EvalFault, Tables, World};
+use world_def::{EvalFault, Tables, World, is_possible, meets, numbers_of, score, world_at};
 
 /// What a world is worth, and `None` where it does not meet what is required. The best worlds are worth least: under MAXIMIZE
 /// it is the score with the other sign (docs/MEANING.md, "Score").

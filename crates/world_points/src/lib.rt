@@ -6,5 +6,5 @@ mod judge;
 mod sides;
 
 pub use fault::PointFault;
-pub use judge::{judge_point, judge_world};
+pub use judge::{judge_point, judge_world, worth};
 pub use sides::sides_of;

@@ -1,7 +1,6 @@
 use Rattle.std.proofs.Common.{◌≡◌, ◌∙◌, ℕ, List, ap, arith, length, subst}
 use Rattle.std.proofs.lemmas.Result.{IfOk-weaker}
-use Rattle.tables_csv.proofs.WholeWritten.{all_written, bytes_read}
-use Rattle.tables_csv.proofs.Written.{row_added}
+use Rattle.tables_csv.proofs.WholeWritten.{all_written, bytes_read, row_added}
 use Rattle.tables_csv.specs.WholeTables.{names_of}
 use Rattle.tables_csv.specs.Writers.{HasWritten}
 use Rattle.tables_csv.proofs.write.table_text.Goals as goal

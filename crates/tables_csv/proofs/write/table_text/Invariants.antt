@@ -1,8 +1,8 @@
 use Rattle.std.proofs.Common.{map, take, ◌++◌}
 use Rattle.std.specs.List.{flat_map}
 use Rattle.csv.specs.Writing.{default_writer, row_text}
-use Rattle.tables_csv.specs.Texts.{value_text}
 use Rattle.tables_csv.specs.WholeTables.{names_of}
+use Rattle.tables_csv.specs.WholeTexts.{value_text}
 use Rattle.tables_csv.specs.Writers.{HasWritten}
 use Rattle.tables_csv.proofs.write.table_text.Given as goal
 

@@ -1,6 +1,6 @@
 use Rattle.std.proofs.Common.{◌≡◌, map, take, []}
 use Rattle.csv.specs.Records.{fields_of, partial_of}
-use Rattle.tables_csv.specs.Texts.{value_text}
+use Rattle.tables_csv.specs.WholeTexts.{value_text}
 use Rattle.tables_csv.proofs.write.value_fields.Given as goal
 
 abbrev pub invariant-loop-value : goal.invariant-loop-value

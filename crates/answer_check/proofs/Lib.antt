@@ -1,9 +1,0 @@
-pub mod Accepted
-pub mod Given
-pub mod Lengths
-pub mod Nodes
-pub mod Parts
-pub mod Sound
-pub mod Verdicts
-pub mod Walks
-pub mod Worths

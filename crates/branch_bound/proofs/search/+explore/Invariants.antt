@@ -1,6 +1,0 @@
-use Rattle.std.proofs.Common.{sum_by}
-use Rattle.branch_tree.proofs.Columns.{width}
-use Rattle.branch_bound.proofs.search.+explore.Given as goal
-
-abbrev pub decreases-explore : goal.decreases-explore
-decreases-explore g l = sum_by width l.sides.now

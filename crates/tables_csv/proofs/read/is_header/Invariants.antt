@@ -1,6 +1,0 @@
-use Rattle.std.proofs.Common.{◌≡◌, take}
-use Rattle.csv.specs.Records.{fields_of}
-use Rattle.tables_csv.proofs.read.is_header.Given as goal
-
-abbrev pub invariant-loop-at : goal.invariant-loop-at
-invariant-loop-at l = take l.at (fields_of l.header) ≡ take l.at l.columns
