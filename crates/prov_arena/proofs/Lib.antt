@@ -2,5 +2,5 @@ mod Items
 mod Spellings
 mod ChainLemmas
 mod Blanks
-mod GraphLemmas
+pub mod GraphLemmas
 mod StartLemmas

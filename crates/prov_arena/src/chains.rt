@@ -16,6 +16,9 @@ pub(crate) struct Node<'a> {
     pub(crate) next: u32,
 }
 
+// A list has up to 20,000,001 of them.
+const _: () = prove!(size_of::<Node<'_>>() == 40);
+
 impl Node<'_> {
     /// Whether the node's part is the one with this hash.
     fn holds(&self, part: Part<'_>, hash: u32) -> bool

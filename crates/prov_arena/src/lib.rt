@@ -6,8 +6,6 @@ mod hash;
 mod memory;
 mod part;
 mod prov;
-#[cfg(test)]
-mod tests;
 mod words;
 
 pub use memory::ArenaMemory;

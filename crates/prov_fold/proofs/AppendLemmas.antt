@@ -3,16 +3,19 @@ use Rattle.std.proofs.Common.{◌≡◌, ◌∙◌, sym, ap, subst, refl, ℕ, �
 use Rattle.std.specs.Option.{ok_or}
 use Rattle.std.proofs.lemmas.Bool.{cases_lt}
 use Rattle.std.proofs.lemmas.Bool.Decides.{Decides-ltb}
-use Rattle.std.proofs.lemmas.List.{get_or_append_left, get_or_push, take_at, take_all}
+use Rattle.std.proofs.lemmas.List.{get_or_push, take_at, take_all}
 use Rattle.prov_arena.specs.Formulas.{Formula, FalseNode}
 use Rattle.prov_arena.specs.Graphs.{at, IsGraph, place_of}
 use Rattle.prov_arena.specs.Graphs as arena
 use Rattle.prov_fold.specs.declared.span.Span.{Span}
 use Rattle.prov_fold.specs.declared.fault.FoldFault.{FoldFault}
 use Rattle.prov_fold.specs.declared.fault.FoldFault.TheVariants as fault
-use Rattle.prov_fold.specs.Graphs.{Graph, node, range, size, Fits, IsFold, Keeps}
+use Rattle.prov_fold.specs.Graphs.{Graph, node, range, size, Fits, Keeps}
+use Rattle.prov_fold.specs.Folds.{HasAid, IsFold}
 use Rattle.prov_fold.specs.Rules.{Made, added, interned, interned_at, given, refused}
 use Rattle.prov_fold.proofs.SameLemmas.{fits_kept}
+use Rattle.prov_fold.proofs.StandLemmas.{keeps_same, keeps_added}
+use Rattle.prov_fold.proofs.AidLemmas.{aid_kept}
 
 -- what the list is after a try to append: a range for each formula
 abbrev pub after : Graph → Span → List Formula → Graph
@@ -62,16 +65,6 @@ full g s f found r is found_is e =
 
 -- ---- what holds of the list
 
-pub keeps_added : (g : Graph) (s : Span) (f : Formula) → length g.ranges ≡ size g → Keeps g (added s f g)
-keeps_added g s f count = record {
-  longer = omega (arith, length-append g.parts (f ∷ []));
-  nodes = λ i lt. get_or_append_left g.parts (f ∷ []) FalseNode i lt;
-  ranges = λ i lt. get_or_append_left g.ranges (s ∷ []) (record { lo = pos 0; hi = pos 0 }) i (omega arith);
-}
-
-pub keeps_same : (g : Graph) → Keeps g g
-keeps_same g = record { longer = omega arith; nodes = λ i lt. refl; ranges = λ i lt. refl }
-
 fits_at : (g : Graph) (s : Span) (f : Formula) → IsFold g → Fits g s f → (i : ℕ) → i < size (added s f g) → Fits (added s f g) (range (added s f g) i) (node (added s f g) i)
 fits_at g s f fold fits i lt = elim (cases_lt i (size g)) as (λ _. Fits (added s f g) (range (added s f g) i) (node (added s f g) i)) [
   | inl less ↦
@@ -86,12 +79,25 @@ fits_at g s f fold fits i lt = elim (cases_lt i (size g)) as (λ _. Fits (added 
       subst (λ (r : Span). Fits (added s f g) r (node (added s f g) i)) (sym is_range) (subst (λ (n : Formula). Fits (added s f g) s n) (sym is_node) new)
 ]
 
-fold_added : (g : Graph) (s : Span) (f : Formula) → IsFold g → Fits g s f → size g < 20000000 → IsGraph (g.parts ++ f ∷ []) → IsFold (added s f g)
-fold_added g s f fold fits room graph = record {
+aid_at : (g : Graph) (s : Span) (f : Formula) → IsFold g → Fits g s f → HasAid g (size g) f → (i : ℕ) → i < size (added s f g) → HasAid (added s f g) i (node (added s f g) i)
+aid_at g s f fold fits aid i lt = elim (cases_lt i (size g)) as (λ _. HasAid (added s f g) i (node (added s f g) i)) [
+  | inl less ↦
+      let keeps = keeps_added g s f fold.count in
+      subst (λ (n : Formula). HasAid (added s f g) i n) (sym (keeps.nodes i less)) (aid_kept g (added s f g) i (node g i) fold.count (omega (arith, less)) (fold.fits i less).kids keeps (fold.aids i less))
+  | inr past ↦
+      let here : size g ≡ i = omega (arith, length-append g.parts (f ∷ [])) in
+      let is_node : node (added s f g) i ≡ f = get_or_push g.parts f FalseNode i here in
+      let new : HasAid (added s f g) (size g) f = aid_kept g (added s f g) (size g) f fold.count (omega arith) fits.kids (keeps_added g s f fold.count) aid in
+      subst (λ (n : Formula). HasAid (added s f g) i n) (sym is_node) (subst (λ j. HasAid (added s f g) j f) here new)
+]
+
+fold_added : (g : Graph) (s : Span) (f : Formula) → IsFold g → Fits g s f → HasAid g (size g) f → size g < 20000000 → IsGraph (g.parts ++ f ∷ []) → IsFold (added s f g)
+fold_added g s f fold fits aid room graph = record {
   graph = graph;
   few = omega (arith, length-append g.parts (f ∷ []));
   count = length-append g.ranges (s ∷ []) ∙ ap (λ n. n + 1) fold.count ∙ sym (length-append g.parts (f ∷ []));
   fits = fits_at g s f fold fits;
+  aids = aid_at g s f fold fits aid;
 }
 
 -- a list after a try is as before, or has one more formula
@@ -101,11 +107,11 @@ after_by P g s f parts' None id count e known new =
     let is : parts' ≡ g.parts ++ f ∷ [] = ap (λ p. p.1) e in
     subst P (sym (after_added g s f parts' count is)) (new is)
 
-pub fold_after : (g : Graph) (s : Span) (f : Formula) (id : ℕ) (parts' : List Formula) (ranges' : List Span) → IsFold g → Fits g s f → size g < 20000000 → IsGraph parts' → (id, parts') ≡ arena.interned g.parts f → ranges' ≡ take (length parts') (g.ranges ++ s ∷ []) → IsFold (record { parts = parts'; ranges = ranges' })
+pub fold_after : (g : Graph) (s : Span) (f : Formula) (id : ℕ) (parts' : List Formula) (ranges' : List Span) → IsFold g → Fits g s f → HasAid g (size g) f → size g < 20000000 → IsGraph parts' → (id, parts') ≡ arena.interned g.parts f → ranges' ≡ take (length parts') (g.ranges ++ s ∷ []) → IsFold (record { parts = parts'; ranges = ranges' })
 unfolding arena.interned
-fold_after g s f id parts' ranges' fold fits room graph e ranges_are =
+fold_after g s f id parts' ranges' fold fits aid room graph e ranges_are =
     subst (λ (rs : List Span). IsFold (record { parts = parts'; ranges = rs })) (sym ranges_are)
-    (after_by IsFold g s f parts' (place_of g.parts f) id fold.count e fold (λ is. fold_added g s f fold fits room (subst IsGraph is graph)))
+    (after_by IsFold g s f parts' (place_of g.parts f) id fold.count e fold (λ is. fold_added g s f fold fits aid room (subst IsGraph is graph)))
 
 pub keeps_after : (g : Graph) (s : Span) (f : Formula) (id : ℕ) (parts' : List Formula) (ranges' : List Span) → length g.ranges ≡ size g → (id, parts') ≡ arena.interned g.parts f → ranges' ≡ take (length parts') (g.ranges ++ s ∷ []) → Keeps g (record { parts = parts'; ranges = ranges' })
 unfolding arena.interned

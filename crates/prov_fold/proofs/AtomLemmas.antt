@@ -5,7 +5,8 @@ use Rattle.prov_arena.specs.Formulas.{Formula, FalseNode, TrueNode, PresNode, Ce
 use Rattle.prov_fold.specs.declared.span.Span.{Span}
 use Rattle.prov_fold.specs.Spans.{lesser, greater, widened}
 use Rattle.prov_fold.specs.Kinds.{HasTerms}
-use Rattle.prov_fold.specs.Graphs.{Graph, node, range, size, Fits, IsFold, HasTruth, HasNumber}
+use Rattle.prov_fold.specs.Graphs.{Graph, node, range, size, Fits, HasTruth, HasNumber}
+use Rattle.prov_fold.specs.Folds.{IsFold}
 use Rattle.prov_fold.proofs.SameLemmas.{All_cons}
 use Rattle.prov_fold.proofs.NumberLemmas.{number_wide}
 

@@ -12,7 +12,8 @@ use Rattle.prov_arena.specs.Formulas.{Formula, FalseNode, TrueNode, PresNode, Ce
 use Rattle.prov_fold.specs.declared.span.Span.{Span}
 use Rattle.prov_fold.specs.Sums.{total_by}
 use Rattle.prov_fold.specs.Spans.{least, greatest, greater, widened, sure, min_span, min_span_by}
-use Rattle.prov_fold.specs.Graphs.{Graph, node, range, size, Fits, IsFold}
+use Rattle.prov_fold.specs.Graphs.{Graph, node, range, size, Fits}
+use Rattle.prov_fold.specs.Folds.{IsFold}
 use Rattle.prov_fold.specs.Values.{number_at, holds, value_of, values_of, HasColumn, HasNumbers, IsNear, CanValue}
 use Rattle.prov_fold.proofs.SameLemmas.{All_head, All_tail, All_cons}
 use Rattle.prov_fold.proofs.SumLemmas.{number_weight}

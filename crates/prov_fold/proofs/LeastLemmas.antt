@@ -7,7 +7,8 @@ use Rattle.std.proofs.lemmas.List.Elements.{All-filter}
 use Rattle.prov_arena.specs.declared.part.Pair.{Pair}
 use Rattle.prov_arena.specs.Formulas.{MinNode, kids_of}
 use Rattle.prov_fold.specs.declared.span.Span.{Span}
-use Rattle.prov_fold.specs.Graphs.{Graph, range, size, Fits, IsFold, HasPair}
+use Rattle.prov_fold.specs.Graphs.{Graph, range, size, Fits, HasPair}
+use Rattle.prov_fold.specs.Folds.{IsFold}
 use Rattle.prov_fold.proofs.AtomLemmas.{widened_low, widened_high}
 use Rattle.prov_fold.specs.Spans.{lesser, greater, least, greatest, sure, widened, min_span, min_span_by, IsLeastSpan}
 use Rattle.prov_fold.proofs.SameLemmas.{All_head, All_tail, All_cons}

@@ -1,4 +1,6 @@
 pub mod SameLemmas
+pub mod StandLemmas
+pub mod AidLemmas
 pub mod AppendLemmas
 pub mod Products
 pub mod NumberLemmas
@@ -17,3 +19,11 @@ pub mod PairLemmas
 pub mod MinLemmas
 pub mod ValueLemmas
 pub mod FillLemmas
+pub mod PlaceLemmas
+pub mod InsideLemmas
+pub mod TotalLemmas
+pub mod MeantLemmas
+pub mod NumberMeanings
+pub mod ListMeanings
+pub mod AidMeanings
+pub mod MinMeanings

@@ -12,7 +12,8 @@ use Rattle.prov_fold.specs.declared.fault.FoldFault.{FoldFault}
 use Rattle.prov_fold.specs.Sums.{total_by}
 use Rattle.prov_fold.specs.Spans.{span_of, truth_span, low_of, high_of, lin_low, lin_high, passes}
 use Rattle.prov_fold.specs.Kinds.{is_number, is_term}
-use Rattle.prov_fold.specs.Graphs.{Graph, node, range, size, IsLinear, Fits, IsFold}
+use Rattle.prov_fold.specs.Graphs.{Graph, node, range, size, IsLinear, Fits}
+use Rattle.prov_fold.specs.Folds.{IsFold}
 use Rattle.prov_fold.specs.Rules.{Made, Rule, interned, constant, then_}
 use Rattle.prov_fold.proofs.SameLemmas.{All_head, All_tail, All_cons}
 use Rattle.prov_fold.proofs.Products.{<ℤ-*ℤ}

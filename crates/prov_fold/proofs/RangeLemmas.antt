@@ -5,7 +5,8 @@ use Rattle.prov_arena.specs.Formulas.{Formula, FalseNode, TrueNode, PresNode, Ce
 use Rattle.prov_arena.specs.Graphs.{at}
 use Rattle.prov_fold.specs.declared.span.Span.{Span}
 use Rattle.prov_fold.specs.Spans.{span_at, span_of}
-use Rattle.prov_fold.specs.Graphs.{Graph, node, range, size, IsFold}
+use Rattle.prov_fold.specs.Graphs.{Graph, node, range, size}
+use Rattle.prov_fold.specs.Folds.{IsFold}
 use Rattle.prov_fold.specs.Sides.{side_of, ranges_of, HasSides}
 use Rattle.prov_fold.proofs.SameLemmas.{span_of_same}
 use Rattle.prov_fold.proofs.ValueLemmas.{fold_push}

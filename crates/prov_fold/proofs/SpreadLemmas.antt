@@ -15,7 +15,8 @@ use Rattle.prov_fold.specs.declared.sums.Scrap.{Scrap}
 use Rattle.prov_fold.specs.declared.span.Scaled.{Scaled}
 use Rattle.prov_fold.specs.Sums.{total_by, added_by}
 use Rattle.prov_fold.specs.Kinds.{is_term, is_summand}
-use Rattle.prov_fold.specs.Graphs.{Graph, node, range, size, Fits, IsFold, HasSummand}
+use Rattle.prov_fold.specs.Graphs.{Graph, node, range, size, Fits, HasSummand}
+use Rattle.prov_fold.specs.Folds.{IsFold}
 use Rattle.prov_fold.specs.Rules.{terms_in, constant_in, scaled, spread, constant_of}
 use Rattle.prov_fold.specs.Scraps.{told, width_of, weight_of, at_low, base_in, base_of, IsGood}
 use Rattle.prov_fold.proofs.SameLemmas.{All_head, All_tail, All_cons}

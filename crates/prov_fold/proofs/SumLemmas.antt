@@ -10,7 +10,8 @@ use Rattle.prov_fold.specs.declared.sums.Scrap.{Scrap}
 use Rattle.prov_fold.specs.declared.span.Span.{Span}
 use Rattle.prov_fold.specs.Sums.{total_by, added_by}
 use Rattle.prov_fold.specs.Spans.{low_of, high_of, lin_low, lin_high}
-use Rattle.prov_fold.specs.Graphs.{Graph, range, Fits, IsFold}
+use Rattle.prov_fold.specs.Graphs.{Graph, range, Fits}
+use Rattle.prov_fold.specs.Folds.{IsFold}
 use Rattle.prov_fold.specs.Scraps.{together, joins, joins_from, width_of, weight_of, fall_of, rise_of, at_low}
 use Rattle.prov_fold.proofs.SameLemmas.{All_head, All_tail, All_cons}
 use Rattle.prov_fold.proofs.NumberLemmas.{IsWideTerm, wide_terms}

@@ -14,7 +14,8 @@ use Rattle.prov_fold.specs.declared.span.Scaled.{Scaled}
 use Rattle.prov_fold.specs.declared.fault.FoldFault.TheVariants as fault
 use Rattle.prov_fold.specs.Sums.{total_by, added_by}
 use Rattle.prov_fold.specs.Spans.{low_of, high_of, lin_low, lin_high, passes}
-use Rattle.prov_fold.specs.Graphs.{Graph, range, size, Fits, IsFold, HasSummand}
+use Rattle.prov_fold.specs.Graphs.{Graph, range, size, Fits, HasSummand}
+use Rattle.prov_fold.specs.Folds.{IsFold}
 use Rattle.prov_fold.specs.Rules.{Made, constant_of, factor_at, joined, spread, judged, refused, node_of}
 use Rattle.prov_fold.specs.Scraps.{told, together, joins, weight_of, fall_of, rise_of, at_low, base_of, width_of, IsGood, nonzero, kept}
 use Rattle.prov_fold.proofs.SameLemmas.{All_head, All_tail, All_cons}

@@ -4,7 +4,7 @@ use Rattle.std.specs.List.Sorted.{IsStrictlyIncreasing}
 use Rattle.prov_arena.specs.declared.part.Term.{Term}
 use Rattle.prov_arena.specs.declared.part.Pair.{Pair}
 use Rattle.prov_arena.specs.Formulas.{Formula, PosNode, NotNode, AndNode, OrNode, LinNode, GuardNode, AbsNode, TotNode, MinNode, kids_of}
-use Rattle.prov_arena.specs.Graphs.{at, IsGraph}
+use Rattle.prov_arena.specs.Graphs.{at}
 use Rattle.prov_fold.specs.declared.span.Span.{Span}
 use Rattle.prov_fold.specs.Spans.{span_at, span_of}
 use Rattle.prov_fold.specs.Kinds.{is_number, is_plain, is_truth, is_term, is_summand}
@@ -72,13 +72,6 @@ pub record Fits (g : Graph) (s : Span) (f : Formula) : Type 0 where
   pub wide : is_number f ≡ false → s.lo <ℤ s.hi
   pub small_lo : unsigned_abs s.lo ≤ 100000000000000000
   pub small_hi : unsigned_abs s.hi ≤ 100000000000000000
-
--- what every list with its ranges is
-pub record IsFold (g : Graph) : Type 0 where
-  pub graph : IsGraph g.parts
-  pub few : size g ≤ 20000000
-  pub count : length g.ranges ≡ size g
-  pub fits : (i : ℕ) → i < size g → Fits g (range g i) (node g i)
 
 -- the list before is the beginning of the list after
 pub record Keeps (before after : Graph) : Type 0 where

@@ -4,5 +4,7 @@ pub mod Sums
 pub mod Kinds
 pub mod Graphs
 pub mod Rules
+pub mod Folds
 pub mod Scraps
 pub mod Values
+pub mod Meanings

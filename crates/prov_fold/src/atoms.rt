@@ -1,10 +1,13 @@
 //! Guards, sizes and least numbers.
-ghost use Rattle.std.specs.Prelude.{◌≡◌, ◌<◌, ◌≤◌, ℕ, All, IfOk, OnOk, true, if◌then◌else◌, map, length, ◌++◌, ◌∷◌, []};
+ghost use Rattle.std.specs.Prelude.{◌≡◌, ◌<◌, ◌≤◌, ℕ, All, IfOk, OnOk, true, if◌then◌else◌, map, filter, pos, int_lt, neg_ℤ, length, ◌++◌, ◌∷◌, []};
 ghost use Rattle.std.specs.HashSet.{contains};
 ghost use Rattle.prov_arena.specs.Formulas.{formula, NotNode};
 ghost use Rattle.prov_fold.specs.Kinds.{is_plain, HasTerms};
 ghost use Rattle.prov_fold.specs.Spans.{min_span, size_span, least, greatest, lesser, greater, sure, IsLeastSpan};
 ghost use Rattle.prov_fold.specs.Graphs.{node, range, size, Fits, HasNumber, HasTruth, HasPair, Keeps};
+ghost use Rattle.prov_fold.specs.Folds.{OrStandsBefore};
+ghost use Rattle.prov_fold.specs.Values.{holds};
+ghost use Rattle.prov_fold.specs.Meanings.{Means};
 ghost use Rattle.prov_fold.specs.Rules.{Follows, pairs_left, is_same_key};
 ghost use Rattle.prov_fold.specs.Rules as rule;
 
@@ -23,6 +26,7 @@ impl<'a> Fold<'a> {
         ensures made { Follows (rule.guard truth number self.old) result self.new }
         ensures kept { Keeps self.old self.new }
         ensures number { IfOk result (λ id. HasNumber self.new id) }
+        ensures means { IfOk result (λ id. Means self.new (λ _ v. v id ≡ (if holds v truth then v number else pos 0))) }
     {
         match self.node(truth) {
             Part::False => self.constant(0),
@@ -94,6 +98,7 @@ impl<'a> Fold<'a> {
         ensures made { Follows (rule.abs number self.old) result self.new }
         ensures kept { Keeps self.old self.new }
         ensures number { IfOk result (λ id. HasNumber self.new id) }
+        ensures means { IfOk result (λ id. Means self.new (λ _ v. v id ≡ (if int_lt (v number) (pos 0) then neg_ℤ (v number) else v number))) }
     {
         let span = self.range(number);
         if span.lo >= 0 {
@@ -114,6 +119,7 @@ impl<'a> Fold<'a> {
         ensures made { Follows (rule.min_of pairs.now self.old) result self.new }
         ensures kept { Keeps self.old self.new }
         ensures number { IfOk result (λ id. HasNumber self.new id) }
+        ensures means { IfOk result (λ id. Means self.new (λ _ v. v id ≡ least (map (λ (pair : _). v pair.number) (filter (λ (pair : _). holds v pair.truth) pairs.now)))) }
     {
         let some = distinct(self.alloc(), pairs)?;
         self.min_some(some.as_slice())
@@ -150,6 +156,7 @@ impl<'a> Fold<'a> {
     fn least(&mut self, pairs: &[Pair]) -> Result<u32, FoldFault>
         requires pairs { All (λ pair. HasPair self.old pair) pairs.now }
         requires some { 0 < length pairs.now }
+        requires or { OrStandsBefore self.old (size self.old) (map (λ (pair : _). pair.truth) pairs.now) }
         ensures made { Follows (rule.least_of pairs.now self.old) result self.new }
         ensures kept { Keeps self.old self.new }
         ensures number { IfOk result (λ id. HasNumber self.new id) }

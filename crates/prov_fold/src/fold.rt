@@ -1,10 +1,13 @@
 //! The list of formulas with their ranges.
-ghost use Rattle.std.specs.Prelude.{◌≡◌, ◌≢◌, ◌<◌, ◌≤◌, ◌≤ℤ◌, pos, unsigned_abs, [], ◌∷◌, ◌++◌, IfOk, IfSome, IfNone, OnOk, OnErr, length, All, true, IsTrue, if◌then◌else◌};
+ghost use Rattle.std.specs.Prelude.{◌≡◌, ◌≢◌, ◌<◌, ◌≤◌, ◌≤ℤ◌, pos, unsigned_abs, [], ◌∷◌, ◌++◌, IfOk, IfSome, IfNone, OnOk, OnErr, length, All, true, not, int_le, IsTrue, if◌then◌else◌};
 ghost use Rattle.prov_arena.specs.Formulas.{formula, FalseNode, TrueNode, LinNode};
 ghost use Rattle.prov_fold.specs.Spans.{span_at, truth_span};
 ghost use Rattle.prov_fold.specs.Sides.{ranges_of, HasSides};
 ghost use Rattle.prov_fold.specs.Kinds.{is_number, is_truth, is_term};
-ghost use Rattle.prov_fold.specs.Graphs.{node, range, size, Fits, HasNumber, HasTruth, IsFold, Keeps};
+ghost use Rattle.prov_fold.specs.Graphs.{node, range, size, Fits, HasNumber, HasTruth, Keeps};
+ghost use Rattle.prov_fold.specs.Folds.{HasAid, IsFold};
+ghost use Rattle.prov_fold.specs.Values.{as_number, holds, number_at, IsThere};
+ghost use Rattle.prov_fold.specs.Meanings.{Means};
 ghost use Rattle.prov_fold.specs.Rules.{Follows};
 ghost use Rattle.prov_fold.specs.Rules as rule;
 
@@ -32,7 +35,8 @@ pub struct Fold<'a> {
 }
 
 impl<'a> Model for Fold<'a> {
-    ghost use Rattle.prov_fold.specs.Graphs.{Graph, IsFold};
+    ghost use Rattle.prov_fold.specs.Graphs.{Graph};
+    ghost use Rattle.prov_fold.specs.Folds.{IsFold};
 
     ghost Value = { Graph };
 
@@ -98,6 +102,7 @@ impl<'a> Fold<'a> {
     pub(crate) fn fixed(&self, holds: bool) -> u32
         ensures place { result ≡ (if holds then 1 else 0) }
         ensures truth { HasTruth self.now result }
+        ensures fold { IsFold self.now }
     {
         // What holds of the list is known where a field is read.
         let _prov = &self.prov;
@@ -106,7 +111,9 @@ impl<'a> Fold<'a> {
 
     /// The part where it stands, else appended with this range.
     pub(crate) fn append(&mut self, part: Part<'_>, span: Span) -> Result<u32, FoldFault>
-        requires { Fits self.old span (formula part) }
+        requires fits { Fits self.old span (formula part) }
+        requires aid { HasAid self.old (size self.old) (formula part) }
+        ensures before { IsFold self.old }
         ensures made { Follows (rule.interned span (formula part.entry) self.old) result self.new }
         ensures kept { Keeps self.old self.new }
         ensures place { IfOk result (λ id. (id < size self.new) × (node self.new id ≡ formula part.entry)) }
@@ -126,6 +133,7 @@ impl<'a> Fold<'a> {
         ensures made { Follows (rule.pres column self.old) result self.new }
         ensures kept { Keeps self.old self.new }
         ensures truth { IfOk result (λ id. HasTruth self.new id) }
+        ensures means { IfOk result (λ id. Means self.new (λ world v. v id ≡ number_at world column)) }
     {
         self.append(Part::Pres(column), Span::truth())
     }
@@ -137,6 +145,7 @@ impl<'a> Fold<'a> {
         ensures made { Follows (rule.pos_of number self.old) result self.new }
         ensures kept { Keeps self.old self.new }
         ensures truth { IfOk result (λ id. HasTruth self.new id) }
+        ensures means { IfOk result (λ id. Means self.new (λ _ v. v id ≡ as_number (int_le (pos 0) (v number)))) }
     {
         let span = self.range(number);
         if span.lo >= 0 {
@@ -152,6 +161,8 @@ impl<'a> Fold<'a> {
     pub(crate) fn number(&mut self, atom: Part<'_>, span: Span) -> Result<u32, FoldFault>
         requires fits { Fits self.old span (formula atom) }
         requires term { is_term (formula atom) ≡ true }
+        requires aid { HasAid self.old (size self.old) (formula atom) }
+        ensures before { IsFold self.old }
         ensures made { Follows (rule.number_of span (formula atom.entry) self.old) result self.new }
         ensures kept { Keeps self.old self.new }
         ensures number { IfOk result (λ id. HasNumber self.new id) }
@@ -171,6 +182,7 @@ impl<'a> Fold<'a> {
         ensures made { Follows (rule.constant value self.old) result self.new }
         ensures kept { Keeps self.old self.new }
         ensures number { IfOk result (λ id. HasNumber self.new id) }
+        ensures means { IfOk result (λ id. Means self.new (λ _ v. v id ≡ value)) }
     {
         if value.unsigned_abs() > MOST {
             return Err(FoldFault::Wide(i128::from(value)));
@@ -192,6 +204,7 @@ impl<'a> Fold<'a> {
         ensures made { Follows (rule.cell column range self.old) result self.new }
         ensures kept { Keeps self.old self.new }
         ensures number { IfOk result (λ id. HasNumber self.new id) }
+        ensures means { IfOk result (λ id. Means self.new (λ world v. IsThere world column range → v id ≡ number_at world column)) }
     {
         if range.lo == range.hi {
             return self.constant(range.lo);
@@ -218,6 +231,7 @@ impl<'a> Fold<'a> {
         ensures made { Follows (rule.not_of truth self.old) result self.new }
         ensures kept { Keeps self.old self.new }
         ensures truth { IfOk result (λ id. HasTruth self.new id) }
+        ensures means { IfOk result (λ id. Means self.new (λ _ v. holds v id ≡ not (holds v truth))) }
     {
         match self.prov.node(truth) {
             Part::False => Ok(self.fixed(true)),
@@ -234,6 +248,7 @@ impl<'a> Fold<'a> {
         ensures made { Follows (rule.tot number self.old) result self.new }
         ensures kept { Keeps self.old self.new }
         ensures number { IfOk result (λ id. HasNumber self.new id) }
+        ensures means { IfOk result (λ id. Means self.new (λ _ v. v id ≡ v number)) }
     {
         let (_, terms) = self.linear(number);
         if terms.len() < 2 {

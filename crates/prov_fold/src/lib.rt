@@ -7,8 +7,6 @@ mod fold;
 mod lists;
 mod span;
 mod sums;
-#[cfg(test)]
-mod tests;
 mod values;
 
 pub use fault::FoldFault;

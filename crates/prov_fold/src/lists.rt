@@ -2,8 +2,10 @@
 ghost use Rattle.std.specs.Prelude.{◌≡◌, ℕ, All, IfOk, OnOk, not, ◌==◌, nat_eq, if◌then◌else◌, true, filter, flat_map, length, ◌<◌, ◌++◌, ◌∷◌, []};
 ghost use Rattle.std.specs.HashSet.{contains};
 ghost use Rattle.prov_arena.specs.Formulas.{formula, AndNode, OrNode};
-ghost use Rattle.std.specs.List.{list_any};
+ghost use Rattle.std.specs.List.{list_all, list_any};
 ghost use Rattle.prov_fold.specs.Graphs.{node, size, HasTruth, Keeps};
+ghost use Rattle.prov_fold.specs.Values.{holds};
+ghost use Rattle.prov_fold.specs.Meanings.{Means};
 ghost use Rattle.prov_fold.specs.Rules.{Follows, left, and_kids, or_kids};
 ghost use Rattle.prov_fold.specs.Rules as rule;
 
@@ -20,6 +22,7 @@ impl<'a> Fold<'a> {
         ensures made { Follows (rule.and_of kids.now self.old) result self.new }
         ensures kept { Keeps self.old self.new }
         ensures truth { IfOk result (λ id. HasTruth self.new id) }
+        ensures means { IfOk result (λ id. Means self.new (λ _ v. holds v id ≡ list_all (holds v) kids.now)) }
     {
         let all = self.and_spread(kids)?;
         if has(all.as_slice(), FALSE) {
@@ -49,6 +52,7 @@ impl<'a> Fold<'a> {
         ensures made { Follows (rule.or_of kids.now self.old) result self.new }
         ensures kept { Keeps self.old self.new }
         ensures truth { IfOk result (λ id. HasTruth self.new id) }
+        ensures means { IfOk result (λ id. Means self.new (λ _ v. holds v id ≡ list_any (holds v) kids.now)) }
     {
         let all = self.or_spread(kids)?;
         if has(all.as_slice(), TRUE) {

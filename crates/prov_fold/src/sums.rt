@@ -3,7 +3,9 @@ ghost use Rattle.std.specs.Prelude.{◌≡◌, ◌<◌, ◌≤◌, ◌^◌, ◌+
 ghost use Rattle.std.specs.List.Sorted.{IsPermutation, IsNonDecreasingBy, IsStrictlyIncreasing};
 ghost use Rattle.std.specs.Ordering.{int_eq};
 ghost use Rattle.prov_arena.specs.Formulas.{formula};
-ghost use Rattle.prov_fold.specs.Graphs.{node, range, size, IsFold, HasNumber, HasSummand, Keeps, Graph};
+ghost use Rattle.prov_fold.specs.Graphs.{node, range, size, HasNumber, HasSummand, Keeps, Graph};
+ghost use Rattle.prov_fold.specs.Folds.{IsFold};
+ghost use Rattle.prov_fold.specs.Meanings.{Means};
 ghost use Rattle.prov_fold.specs.Rules.{Follows, constant_of, constant_in, joined, scaled, spread, terms_in};
 ghost use Rattle.prov_fold.specs.Rules as rule;
 ghost use Rattle.prov_fold.specs.Spans.{lin_low, lin_high, passes as is_wide};
@@ -33,6 +35,7 @@ impl<'a> Fold<'a> {
         ensures made { Follows (rule.sum constant parts.now self.old) result self.new }
         ensures kept { Keeps self.old self.new }
         ensures number { IfOk result (λ id. HasNumber self.new id) }
+        ensures means { IfOk result (λ id. Means self.new (λ _ v. v id ≡ constant +ℤ total_by (λ part. part.factor *ℤ v part.number) parts.now)) }
     {
         let joined = self.joined(parts)?;
         let total = self.total(constant, parts);

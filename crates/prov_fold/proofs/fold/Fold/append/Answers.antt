@@ -1,6 +1,7 @@
 use Rattle.std.proofs.Common.{◌≡◌, ◌∙◌, sym, subst, arith, [], ◌∷◌, ◌++◌, length, take, Ok}
 use Rattle.prov_arena.specs.Formulas.{formula}
-use Rattle.prov_fold.specs.Graphs.{Graph, Fits, Keeps}
+use Rattle.prov_fold.specs.Graphs.{Graph, size, Fits, Keeps}
+use Rattle.prov_fold.specs.Folds.{HasAid}
 use Rattle.prov_fold.specs.Rules.{Made}
 use Rattle.prov_fold.specs.Rules as rule
 use Rattle.prov_fold.proofs.AppendLemmas.{made, full, fold_after, keeps_after}
@@ -18,7 +19,7 @@ invariant_of-self-2 c =
     let len : c.len-2.result ≡ length c.intern-made.new.self = c.len-2.ensures.len in
     let pushed : c.push.new.self.items ≡ c.self.inside.ranges.items ++ c.args.span ∷ [] = c.in_ok-push.ensures.items in
     let cut : c.truncate.new.self.items ≡ take c.len-2.result c.push.new.self.items = c.truncate.ensures.items in
-    fold_after g c.args.span (formula c.args.part) c.in_ok-made.field-0 c.intern-made.new.self c.truncate.new.self.items c.self.invariant (subst (λ (g : Graph). Fits g c.args.span (formula c.args.part)) (sym c.self.view_is) c.requires) (omega (arith, c.self.invariant.few, c.len.ensures.len, c.if-len-eq-MOST_PARTS.false)) c.len-2.ensures.graph c.in_ok-made.ensures.interned (cut ∙ (λ i. take (len i) (pushed i)))
+    fold_after g c.args.span (formula c.args.part) c.in_ok-made.field-0 c.intern-made.new.self c.truncate.new.self.items c.self.invariant (subst (λ (g : Graph). Fits g c.args.span (formula c.args.part)) (sym c.self.view_is) c.requires.fits) (subst (λ (g : Graph). HasAid g (size g) (formula c.args.part)) (sym c.self.view_is) c.requires.aid) (omega (arith, c.self.invariant.few, c.len.ensures.len, c.if-len-eq-MOST_PARTS.false)) c.len-2.ensures.graph c.in_ok-made.ensures.interned (cut ∙ (λ i. take (len i) (pushed i)))
 
 pub returns-clause-made : goal.returns-clause-made
 returns-clause-made c =

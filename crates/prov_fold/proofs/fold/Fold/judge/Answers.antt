@@ -78,8 +78,8 @@ overflow_cast-total c =
     let small_h = small.hi_small in
     rw t (omega (arith, ints, small_t))
 
-pub append-requires : goal.append-requires
-append-requires c =
+pub append-requires-clause-fits : goal.append-requires-clause-fits
+append-requires-clause-fits c =
     let fits_l : FitsSigned w128 c.args.ends.0 = search rules in
     let fits_h : FitsSigned w128 c.args.ends.1 = search rules in
     let t : to_z w128 (of_z w128 c.args.total) ≡ c.args.total = to_z-of_z c.ranges.total in

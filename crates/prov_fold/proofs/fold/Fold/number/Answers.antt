@@ -6,8 +6,8 @@ use Rattle.prov_fold.specs.Rules as rule
 use Rattle.prov_fold.proofs.NumberLemmas.{once_fits, one_atom, then_ok}
 use Rattle.prov_fold.proofs.fold.Fold.number.Goals as goal
 
-pub append-requires-2 : goal.append-requires-2
-append-requires-2 c =
+pub append-requires-2-clause-fits : goal.append-requires-2-clause-fits
+append-requires-2-clause-fits c =
     once_fits c.append.new.self c.in_ok-atom.atom c.range-span.result c.in_ok-atom.ensures.place.0 (ap is_term c.in_ok-atom.ensures.place.1 ∙ c.requires.term) c.range-span.ensures.range c.range-span.ensures.fits
 
 pub returns-clause-made : goal.returns-clause-made

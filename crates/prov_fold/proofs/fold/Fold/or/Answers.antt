@@ -4,6 +4,8 @@ use Rattle.prov_arena.specs.Formulas.{OrNode}
 use Rattle.prov_fold.specs.Graphs.{HasTruth}
 use Rattle.prov_fold.specs.Rules.{left, list_of, or_of}
 use Rattle.prov_fold.proofs.ListLemmas.{decided, undecided, All-left}
+use Rattle.prov_fold.proofs.MeantLemmas.{said}
+use Rattle.prov_fold.proofs.ListMeanings.{OrOf, or_means}
 use Rattle.prov_fold.proofs.fold.Fold.or.Goals as goal
 
 pub returns-then-has-clause-made : goal.returns-then-has-clause-made
@@ -24,3 +26,11 @@ returns-clause-made c = λ other.
     let some : c.as_slice-3.result.now ≡ left 0 c.in_ok-all.all.items = c.as_slice-3.ensures.value ∙ c.in_ok-some.ensures ∙ ap (left 0) c.as_slice-2.ensures.value in
     let missed : list_any (λ k. k == 1) c.in_ok-all.all.items ≡ false = ap (list_any (λ k. k == 1)) (sym c.as_slice.ensures.value) ∙ sym c.has.ensures ∙ c.if-has.false in
     undecided 0 1 (λ ks. OrNode ks) c.in_ok-all.all.items c.as_slice-3.result.now c.args.self.now _ missed some (c.or_of.ensures.made other) ∙ ap (λ (ks : List ℕ). list_of 0 1 (λ ks. OrNode ks) ks c.args.self.now) c.in_ok-all.ensures.kids
+
+pub returns-then-has-clause-means : goal.returns-then-has-clause-means
+returns-then-has-clause-means c =
+    said (or_of c.args.kids.now) c.args.self.now c.args.self.now (Ok c.fixed.result) (OrOf c.args.kids.now) (or_means c.args.kids.now c.args.self.now c.fixed.ensures.fold (λ j d lt. (c.requires j d lt).below)) (returns-then-has-clause-made c)
+
+pub returns-clause-means : goal.returns-clause-means
+returns-clause-means c =
+    said (or_of c.args.kids.now) c.args.self.now c.or_of.new.self c.or_of.result (OrOf c.args.kids.now) (or_means c.args.kids.now c.args.self.now c.alloc.ensures (λ j d lt. (c.requires j d lt).below)) (returns-clause-made c)

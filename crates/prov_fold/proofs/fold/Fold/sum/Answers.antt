@@ -11,6 +11,8 @@ use Rattle.prov_fold.specs.Scraps.{IsGood, joins, kept, told, weight_of, fall_of
 use Rattle.prov_fold.specs.Rules.{judged, sum, constant_of}
 use Rattle.prov_fold.proofs.WholeLemmas.{below_joined, weight_joined, low_is, high_is, apart_is, good_joined, from_joined, terms_are}
 use Rattle.prov_fold.proofs.FinishLemmas.{increasing}
+use Rattle.prov_fold.proofs.MeantLemmas.{said, IsWorth}
+use Rattle.prov_fold.proofs.NumberMeanings.{SumOf, sum_means}
 use Rattle.prov_fold.proofs.fold.Fold.sum.Goals as goal
 
 pub ends-ends-requires : goal.ends-ends-requires
@@ -62,3 +64,7 @@ returns-clause-made c =
     let t : to_z w128 (of_z w128 c.total-total.result) ≡ constant_of c.args.self.now c.args.constant c.args.parts.now = to_z-of_z fits_t ∙ c.total-total.ensures ∙ ap (λ (z : ℤ). constant_of c.args.self.now z c.args.parts.now) k in
     let base : c.base-base.result ≡ base_of c.args.self.now c.args.constant c.args.parts.now = c.base-base.ensures.value ∙ ap (λ (z : ℤ). base_of c.args.self.now z c.args.parts.now) k in
     λ other. c.judge.ensures.made other ∙ (λ i. judged (t i) (kept (all2 i)) c.args.self.now) ∙ ap (λ (ts : List Term). judged (constant_of c.args.self.now c.args.constant c.args.parts.now) ts c.args.self.now) (terms_are c.args.self.now c.args.constant c.args.parts.now c.in_ok-joined.ensures.fold c.requires.parts c.requires.factors comes.scraps comes.sorted comes.spread_out comes.permutation comes.rising)
+
+pub returns-clause-means : goal.returns-clause-means
+returns-clause-means c =
+    said (sum c.args.constant c.args.parts.now) c.args.self.now c.judge.new.self c.judge.result (IsWorth (SumOf c.args.constant c.args.parts.now)) (sum_means c.args.constant c.args.parts.now c.args.self.now c.in_ok-joined.ensures.fold (λ j d lt. (c.requires.parts j d lt).below)) (returns-clause-made c)
