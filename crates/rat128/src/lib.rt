@@ -5,8 +5,6 @@ mod divisor;
 mod memory;
 mod number;
 mod rat;
-#[cfg(test)]
-mod tests;
 mod text;
 mod wide;
 
