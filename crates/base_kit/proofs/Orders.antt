@@ -4,14 +4,13 @@ use Rattle.std.specs.declared.cmp.Ordering.{Ordering}
 use Rattle.std.specs.declared.cmp.Ordering.TheVariants.{Equal}
 use Rattle.std.specs.Bool.{Decides}
 use Rattle.std.specs.Ordering.{is_eq, int_cmp}
-use Rattle.std.specs.Cmp.{IsTotalOrder, Equal-is, signed_Decides, int_ranked, ranked_equal}
-use Rattle.std.specs.Cmp.Lexicographic.{pointwise, bytes_decides, pointwise_decides, slice_cmp, lists_total, lists_ties, texts_ties}
+use Rattle.std.specs.Cmp.{IsTotalOrder, Equal-is, int_ranked, ranked_equal}
+use Rattle.std.specs.Cmp.Lexicographic.{bytes_decides, pointwise_decides, slice_cmp, lists_total, lists_ties, texts_ties}
 use Rattle.base_kit.specs.declared.value.Value.{Value}
 use Rattle.base_kit.specs.declared.value.Value.TheVariants.{Int, Text}
 use Rattle.base_kit.specs.Orders.{value_order, row_order}
 use Rattle.base_kit.specs.contracts.value.ValueOrd.TheImpl.{cmp-value}
 use Rattle.base_kit.specs.contracts.value.ValueOrd.TheImpl.Laws.{total-law}
-use Rattle.base_kit.specs.contracts.value.ValuePartialEq.TheImpl.{eq-value}
 
 -- `cmp` of two values
 pub value_cmp-is : (x y : Value) → cmp-value.it x y ≡ value_order x y
@@ -55,17 +54,6 @@ same_value x y r is = told (value_order x y) r (x ≡ y) (is ∙ value_cmp-is x 
 -- likewise of two rows
 pub same_row : (xs ys : List Value) (r : Ordering) → r ≡ slice_cmp cmp-value.it xs ys → (r ≡ Equal) ↔ (xs ≡ ys)
 same_row xs ys r is = told (row_order xs ys) r (xs ≡ ys) (is ∙ ap (λ order. slice_cmp order xs ys) value_order-is) (row_order-Equal xs ys)
-
--- `==` of two values
-pub value_eq-Decides : (x y : Value) → Decides (eq-value.it x y) (x ≡ y)
-value_eq-Decides (Int m) (Int n) = (λ e. ap Int ((signed_Decides m n).0 e), λ e. let same : m ≡ n = cc in (signed_Decides m n).1 same)
-value_eq-Decides (Int m) (Text t) = (λ e. cc, λ e. cc)
-value_eq-Decides (Text s) (Int n) = (λ e. cc, λ e. cc)
-value_eq-Decides (Text s) (Text t) = (λ e. ap Text ((bytes_decides s t).0 e), λ e. let same : s ≡ t = cc in (bytes_decides s t).1 same)
-
--- `==` of two rows
-pub row_eq-Decides : (xs ys : List Value) → Decides (pointwise eq-value.it xs ys) (xs ≡ ys)
-row_eq-Decides xs ys = pointwise_decides value_eq-Decides xs ys
 
 -- what the calls that compare ensure beside their answer
 pub ruleset order_laws = (same_value, same_row, value_order-total, row_order-total)

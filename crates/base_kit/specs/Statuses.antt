@@ -1,9 +1,9 @@
--- the numbers with which a run ends
+-- the exit statuses of a run
 use Rattle.std.specs.Prelude.{ℕ}
 use Rattle.base_kit.specs.declared.status.Status.{Status}
 use Rattle.base_kit.specs.declared.status.Status.TheVariants.{Done, Impossible, Words, Query, Tables, Size, Unfinished, Read, Write, Memory, Rejected, Unreadable}
 
--- the status's place among the statuses, from 0
+-- the exit status: the status's place among the statuses, from 0
 abbrev pub code_of : Status → ℕ
 code_of Done = 0
 code_of Impossible = 1

@@ -1,4 +1,4 @@
-//! Copies, of which contracts say that they equal what they copy.
+//! Copies that are equal to what they copy.
 ghost use Rattle.std.specs.Prelude.{◌≡◌, IfOk};
 
 use crate::{List, Memory};
@@ -6,7 +6,7 @@ use std::alloc::Global;
 
 /// A type whose values can be copied where there is memory.
 pub trait Duplicate: Drop {
-    /// A value equal to this one.
+    /// A copy that is equal to this value.
     fn copy(&self, alloc: Global) -> Result<Self, Memory>
         ensures { IfOk result (λ made. made ≡ self.now) };
 }

@@ -4,8 +4,8 @@ ghost use Rattle.std.specs.List.{list_any};
 ghost use Rattle.std.specs.Cmp.Lexicographic.{pointwise};
 ghost use Rattle.base_kit.specs.Keywords as spec;
 
-/// The reserved words, in capitals as they are written. None of them is a name (docs/LANGUAGE.md).
-pub const KEYWORDS: [&[u8]; 36] = [
+// The reserved words, in capitals as they are written. None of them is a name (docs/LANGUAGE.md).
+const KEYWORDS: [&[u8]; 36] = [
     b"TABLE",
     b"INT",
     b"TEXT",
@@ -44,7 +44,7 @@ pub const KEYWORDS: [&[u8]; 36] = [
     b"COST",
 ];
 
-/// Whether a text is a reserved word; case counts.
+/// Whether a text is a reserved word (docs/LANGUAGE.md); case counts.
 #[tactic(auto, unfolding(crate::specs::Keywords::is_keyword))]
 pub fn is_keyword(text: &[u8]) -> bool
     ensures { result ≡ spec.is_keyword text.now }

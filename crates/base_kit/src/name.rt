@@ -38,16 +38,16 @@ impl Model for Name {
 /// Why a name was refused.
 #[derive(Clone, Copy, Debug, PartialEq, Eq, Error)]
 pub enum NameFault {
-    /// It is no name.
+    /// Not a name.
     #[error("not a name")]
     NotName,
-    /// There was not enough memory.
+    /// Out of memory.
     #[error("out of memory")]
     Memory,
 }
 
 impl Name {
-    /// A name of these bytes, unless they are none.
+    /// Makes a name of a text; `NotName` where the text is not a name (docs/LANGUAGE.md).
     pub fn new(alloc: Global, text: &str) -> Result<Name, NameFault>
         ensures value { IfOk result (λ made. made ≡ text.now) }
         ensures is_name { OnOk result (IsTrue (spec.is_name text.now)) }
@@ -71,7 +71,7 @@ impl Name {
     }
 }
 
-/// Whether a name may have these bytes (docs/LANGUAGE.md).
+/// Whether these bytes are a name (docs/LANGUAGE.md).
 #[tactic(auto, unfolding(crate::specs::Names::is_name))]
 pub fn is_name(text: &[u8]) -> bool
     ensures { result ≡ spec.is_name text.now }

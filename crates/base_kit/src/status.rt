@@ -1,4 +1,4 @@
-//! What a run ends with.
+//! How a run ended.
 ghost use Rattle.std.specs.Prelude.{◌≡◌};
 ghost use Rattle.base_kit.specs.Statuses.{code_of};
 
@@ -9,30 +9,30 @@ pub enum Status {
     Done,
     /// No possible world meets the requirements.
     Impossible,
-    /// The words on the command line are no command.
+    /// The command line is not a command.
     Words,
-    /// The query is no query, or breaks a rule.
+    /// The query has a syntax error, or breaks a rule.
     Query,
     /// A table is refused, or a row has no value between its bounds.
     Tables,
-    /// A limit on sizes was passed.
+    /// A limit on sizes is exceeded.
     Size,
-    /// The allowed number of nodes is used up, and the search is not over.
+    /// The node budget is used up, and the search is not over.
     Unfinished,
-    /// A file is absent, too long or was not read.
+    /// A file is missing, too long or could not be read.
     Read,
-    /// The answer was not written whole.
+    /// The answer was not written in full.
     Write,
-    /// There was not enough memory.
+    /// Out of memory.
     Memory,
-    /// The answer that was to be checked is not valid.
+    /// The answer to be checked is not valid.
     Rejected,
-    /// The answer that was to be checked is no answer text.
+    /// The answer to be checked could not be parsed.
     Unreadable,
 }
 
 impl Status {
-    /// The number with which the process ends, 0 to 11 in the order of the variants.
+    /// The exit status of the process, 0 to 11 in the order of the variants.
     pub fn code(&self) -> u8
         ensures { result ≡ code_of self.now }
     {

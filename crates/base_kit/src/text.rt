@@ -34,16 +34,16 @@ impl Model for Txt {
 /// Why a text was refused.
 #[derive(Clone, Copy, Debug, PartialEq, Eq, Error)]
 pub enum TxtFault {
-    /// It has more than 1,000 bytes.
+    /// More than 1,000 bytes.
     #[error("the text has more than 1000 bytes")]
     TooLong,
-    /// There was not enough memory.
+    /// Out of memory.
     #[error("out of memory")]
     Memory,
 }
 
 impl Txt {
-    /// A text of these bytes, unless there are more than 1,000 of them.
+    /// Makes a text of these bytes; `TooLong` where there are more than 1,000 (docs/LANGUAGE.md).
     pub fn new(alloc: Global, text: &str) -> Result<Txt, TxtFault>
         ensures value { IfOk result (λ made. made ≡ text.now) }
         ensures too_long { IsErrOf result TxtFault.TooLong ↔ (1000 < length text.now) }

@@ -8,7 +8,7 @@ use std::alloc::Global;
 use std::cmp::Ordering;
 
 /// A whole number or a text (docs/MEANING.md). Numbers compare by size, texts by their bytes, and every number
-/// stands before every text.
+/// comes before every text.
 #[derive(Debug, Drop, PartialEq, Eq, PartialOrd, Ord, Hash)]
 pub enum Value {
     Int(i64),
@@ -19,7 +19,7 @@ pub enum Value {
 pub type Row = List<Value>;
 
 impl Value {
-    /// How two values stand to each other.
+    /// Compares two values.
     #[tactic(auto, using(crate::proofs::Orders::order_laws))]
     pub fn order(&self, other: &Value) -> Ordering
         ensures value { result ≡ spec.value_order self.now other.now }
@@ -30,8 +30,7 @@ impl Value {
     }
 }
 
-/// How two rows stand to each other: as their first columns that differ, and a row before every longer one that it
-/// begins.
+/// Compares two rows by their first columns that differ; a row comes before every longer one that begins with it.
 #[tactic(auto, using(crate::proofs::Orders::order_laws))]
 pub fn row_order(one: &[Value], other: &[Value]) -> Ordering
     ensures value { result ≡ spec.row_order one.now other.now }

@@ -18,8 +18,7 @@ use std::marker::Model;
 /// Entries linked four ways, with their neighbours in the row and in the column. It is seen as its
 /// numbers of rows and columns, all its entries, and the stack of the rows that are unlinked; an entry
 /// is live where its row is not. What is written of `live_columns`, `live_rows` and `stack` follows
-/// from these. No call but `build` takes memory, and none takes more time than the entries that it
-/// touches (docs/ENCODING.md).
+/// from these. No call but `build` allocates (docs/ENCODING.md).
 #[derive(Drop)]
 pub struct Grid {
     rows: u32,
@@ -52,7 +51,7 @@ impl Model for Grid {
 impl Grid {
     /// The grid of so many rows and columns with these entries, all of them live. The entries stand in
     /// the rows and columns, rise by row and then by column, and are with the rows and the columns
-    /// fewer than 2^32. `Err` is want of memory. The stack has room for every row from the start.
+    /// fewer than 2^32. `Err` means out of memory. The stack has room for every row from the start.
     pub fn build(alloc: Global, rows: u32, columns: u32, entries: &[Entry]) -> Result<Grid, Memory>
         requires within { All (λ entry. (entry.row < rows) × (entry.column < columns)) entries.now }
         requires rising { AreRising entries.now }

@@ -12,6 +12,3 @@ mod walk;
 pub use entry::Entry;
 pub use grid::Grid;
 pub use walk::GridWalk;
-
-#[cfg(test)]
-mod tests;

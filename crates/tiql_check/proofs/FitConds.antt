@@ -30,10 +30,13 @@ use Rattle.tiql_check.specs.Conditions.{differ, cmp_of, compared, with_part, con
 use Rattle.tiql_check.specs.Selects as selects
 use Rattle.tiql_check.specs.Selects.{value_in}
 use Rattle.tiql_check.specs.Small.{all_true, small_expr, small_cond_step, small_cond, small_filter, small_value}
-use Rattle.tiql_check.proofs.Inverse.{came_of, kept, same_Ok, both, both_true, through_seen}
+use Rattle.tiql_check.proofs.Inverse.{came_of, kept, through_seen}
 use Rattle.tiql_check.proofs.Forms.{cond-Compare, cond-Not, cond-And, cond-Or}
 use Rattle.tiql_check.proofs.Fit.{cols, as_kind}
 use Rattle.tiql_check.proofs.FitExprs.{typed_fit, number_fit}
+use Rattle.std.proofs.lemmas.Bool.{and_parts}
+use Rattle.std.proofs.lemmas.Bool.{and_from}
+use Rattle.base_kit.proofs.Results.{same_Ok}
 
 pub small-Compare : (cmp : TreeCmp) (one other : TreeExpr) → small_cond (trees.Compare cmp one other) ≡ (small_expr one && small_expr other)
 unfolding small_cond roll-TreeCond roll
@@ -85,12 +88,12 @@ module _ (scope : Scope) where
       let part = came_of (cond_in scope c) (λ cond. Ok (before ++ cond ∷ [])) next e in
       subst AllFit (same_Ok (before ++ part.0 ∷ []) next part.2)
       (ap all_true (map-append (is_fit (cols scope)) before (part.0 ∷ [])) ∙ list_all-append (λ test. test) (map (is_fit (cols scope)) before) (is_fit (cols scope) part.0 ∷ [])
-      ∙ both_true (all_true (map (is_fit (cols scope)) before)) (is_fit (cols scope) part.0 && true) p (both_true (is_fit (cols scope) part.0) true (fit part.0 part.1 small) refl))
+      ∙ and_from (all_true (map (is_fit (cols scope)) before)) (is_fit (cols scope) part.0 && true) p (and_from (is_fit (cols scope) part.0) true (fit part.0 part.1 small) refl))
 
   cond_layer : (y : TreeCond-F WithCond) → CondFit (roll-TreeCond (map-TreeCond WithCond TreeCond (λ c. c.0) y))
   unfolding roll-TreeCond roll CondFit
   cond_layer (TreeCond-F.Compare cmp one other) = λ cond e small.
-      let tests = both (small_expr one) (small_expr other) (sym (small-Compare cmp one other) ∙ small) in
+      let tests = and_parts (small_expr one) (small_expr other) (sym (small-Compare cmp one other) ∙ small) in
       compared_fit cmp one other cond (sym (cond-Compare scope _ cmp one other refl) ∙ e) tests.0 tests.1
   cond_layer (TreeCond-F.Not y) = λ cond e small.
       let part = came_of (cond_in scope y.0) (λ cond. Ok (conds.Not cond)) cond (sym (cond-Not scope _ y.0 refl) ∙ e) in

@@ -30,9 +30,10 @@ use Rattle.tiql_check.specs.Scopes.{Scope, number, candidates, only_one, meant}
 use Rattle.tiql_check.specs.Expressions as checks
 use Rattle.tiql_check.specs.Expressions.{Part, SignedPart, as_number, whole_number, add_term, with_term, no_terms, add_factor, with_factor, no_factors, is_second_unknown, negated, absolute, part_in, signed_in, form_in, typed_in, number_in}
 use Rattle.tiql_check.specs.Small.{all_true, small_step, small_expr_step, small_signed_step, small_expr, small_signed, small_form}
-use Rattle.tiql_check.proofs.Inverse.{came_of, kept, same_Ok, through_seen}
+use Rattle.tiql_check.proofs.Inverse.{came_of, kept, through_seen}
 use Rattle.tiql_check.proofs.Forms.{part_in-is, formed-Number, formed-Text, formed-Ref, formed-Sum, formed-Product, formed-Neg, formed-Abs, term-by, factor-by}
 use Rattle.tiql_check.proofs.Fit.{cols, as_kind, IsThere, candidates_there}
+use Rattle.base_kit.proofs.Results.{same_Ok}
 
 pub small_expr-is : (e : TreeExpr) → small_expr e ≡ small_form e.form
 unfolding small_expr small_form

@@ -34,7 +34,7 @@ use Rattle.tiql_tree.specs.declared.tree.TreeGoal.TheVariants as goals
 use Rattle.tiql_check.specs.declared.fault.SoundFault.{SoundFault}
 use Rattle.tiql_check.specs.declared.known.Relation.{Relation}
 use Rattle.tiql_check.specs.declared.known.Known.{Known}
-use Rattle.tiql_check.specs.Turns.{◌>>=◌, in_turn, Gives}
+use Rattle.tiql_check.specs.Turns.{◌>>=◌, in_turn, ChecksTo}
 use Rattle.tiql_check.specs.Expressions.{number_in}
 use Rattle.tiql_check.specs.Conditions.{cond_in}
 use Rattle.tiql_check.specs.Known.{nothing, declared, columns_in, with_table, with_hypo, with_view, with_require}
@@ -43,7 +43,7 @@ use Rattle.tiql_check.specs.Hypos.{checked_hypo}
 use Rattle.tiql_check.specs.Views.{checked_view}
 use Rattle.tiql_check.specs.Sound.{relation_scope, have, checked_require, with_decl, summed, checked_goal, checked}
 use Rattle.tiql_check.specs.Small.{small_cond, small_require, small_decl, small_goal, HasSmallNumbers}
-use Rattle.tiql_check.proofs.Inverse.{came_of, same_Ok, both, through}
+use Rattle.tiql_check.proofs.Inverse.{came_of, through}
 use Rattle.tiql_check.proofs.FitExprs.{number_fit}
 use Rattle.tiql_check.proofs.FitConds.{cond_fit}
 use Rattle.tiql_check.proofs.FitTables.{table_fit, hypo_fit}
@@ -51,6 +51,8 @@ use Rattle.tiql_check.proofs.FitSelects.{AreThere, declared_there}
 use Rattle.tiql_check.proofs.FitViews.{view_fit}
 use Rattle.tiql_check.proofs.SmallText.{text_small}
 use Rattle.tiql_tree.specs.Unplaced.{HasText}
+use Rattle.std.proofs.lemmas.Bool.{and_parts}
+use Rattle.base_kit.proofs.Results.{same_Ok}
 
 get_left : {A : Type 0} (xs ys : List A) (n : ℕ) (x : A) → slice_get xs n ≡ Some x → slice_get (xs ++ ys) n ≡ Some x
 get_left [] ys n x e = absurd (let h : None ≡ Some x = e in cc)
@@ -352,7 +354,7 @@ decl_step known next (decls.Require tree) small e fit =
 pub well_formed : (tree : Tree) (q : Query) → HasSmallNumbers tree → checked tree ≡ Ok q → IsWellFormed q
 unfolding checked HasSmallNumbers
 well_formed tree q small e =
-    let tests = both (list_all small_decl tree.decls) (small_goal tree.goal) small in
+    let tests = and_parts (list_all small_decl tree.decls) (small_goal tree.goal) small in
     let known = came_of (in_turn with_decl nothing tree.decls) (λ known. checked_goal known tree.goal >>= (λ aim. Ok (record known.query { aim = aim }))) q e in
     let aim = came_of (checked_goal known.0 tree.goal) (λ aim. Ok (record (known.0).query { aim = aim })) q known.2 in
     let fit = through with_decl KnownFit small_decl decl_step tree.decls nothing known.0 tests.0 known.1 (record {
@@ -373,6 +375,6 @@ well_formed tree q small e =
     })
 
 -- the clause of the call that checks
-pub checked_well : (tree : Tree) (r : Result Query SoundFault) → Gives (checked tree) r → HasText tree → IfOk r (λ q. IsWellFormed q)
+pub checked_well : (tree : Tree) (r : Result Query SoundFault) → ChecksTo (checked tree) r → HasText tree → IfOk r (λ q. IsWellFormed q)
 checked_well tree (Ok q) gives has = well_formed tree q (text_small tree has) gives
 checked_well tree (Err e) gives has = tt

@@ -30,11 +30,13 @@ use Rattle.tiql_check.specs.Conditions.{filter_in}
 use Rattle.tiql_check.specs.Known.{relation_named, declared_at, declared, columns_in}
 use Rattle.tiql_check.specs.Selects.{Taken, none_taken, has_alias, with_source, with_group, is_grouped, value_in, fits_group, has_name, item_ruled, no_items, with_item, group_if, items_in, checked_select}
 use Rattle.tiql_check.specs.Small.{small_filter, small_value, small_select}
-use Rattle.tiql_check.proofs.Inverse.{came_of, kept, same_Ok, both, through}
+use Rattle.tiql_check.proofs.Inverse.{came_of, kept, through}
 use Rattle.tiql_check.proofs.Fit.{cols, as_kind}
 use Rattle.tiql_check.proofs.FitExprs.{meant_there}
 use Rattle.tiql_check.proofs.FitConds.{filter_fit, ItemFit, value_fit}
 use Rattle.tiql_check.proofs.FitTables.{any_part}
+use Rattle.std.proofs.lemmas.Bool.{and_parts}
+use Rattle.base_kit.proofs.Results.{same_Ok}
 
 -- each relation that was declared is there
 abbrev pub AreThere : Known → Type 0
@@ -155,7 +157,7 @@ arm_made known first taken select filter arm p fits small e =
 pub select_fit : (known : Known) (first : Bool) (select : TreeSelect) (arm : Arm) → AreThere known → checked_select known first select ≡ Ok arm → small_select select ≡ true → ArmFit known arm
 unfolding checked_select
 select_fit known first select arm all e small =
-    let tests = both (small_filter select.filter) (list_all (λ (item : TreeItem). small_value item.value) select.items) small in
+    let tests = and_parts (small_filter select.filter) (list_all (λ (item : TreeItem). small_value item.value) select.items) small in
     let taken = came_of (in_turn (with_source known) none_taken select.sources) (λ taken. filter_in taken.scope select.filter >>= items_in first taken select) arm e in
     let filter = came_of (filter_in (taken.0).scope select.filter) (items_in first taken.0 select) arm taken.2 in
     arm_made known first taken.0 select filter.0 arm

@@ -20,9 +20,13 @@ use Rattle.tiql_check.specs.Expressions.{number_in}
 use Rattle.tiql_check.specs.Tables.{is_among}
 use Rattle.tiql_check.specs.Hypos.{bare_scope, is_set, set_column, with_bound}
 use Rattle.tiql_check.specs.Small.{small_expr, small_bound}
-use Rattle.tiql_check.proofs.Inverse.{came_of, kept, same_Ok, both, both_true, neither, through}
+use Rattle.tiql_check.proofs.Inverse.{came_of, kept, through}
 use Rattle.tiql_check.proofs.Fit.{column_there}
 use Rattle.tiql_check.proofs.FitExprs.{number_fit}
+use Rattle.std.proofs.lemmas.Bool.{and_parts}
+use Rattle.std.proofs.lemmas.Bool.{and_from}
+use Rattle.std.proofs.lemmas.Bool.{or_parts}
+use Rattle.base_kit.proofs.Results.{same_Ok}
 
 other_way : (m n : ℕ) → (m == n) ≡ false → (n == m) ≡ false
 other_way m n differ = ne_eqb n m (λ e. eqb-false m n differ (sym e))
@@ -32,11 +36,11 @@ pub once_push : (before : List QBound) (made : QBound) → is_set made.column be
 unfolding are_once
 once_push [] made free once = refl
 once_push (b ∷ bs) made free once =
-    let tests = both (not (is_set b.column bs)) (are_once bs) once in
-    let parts = neither (b.column == made.column) (is_set made.column bs) free in
+    let tests = and_parts (not (is_set b.column bs)) (are_once bs) once in
+    let parts = or_parts (b.column == made.column) (is_set made.column bs) free in
     let unset : is_set b.column (bs ++ made ∷ []) ≡ false = list_any-append (λ (bound : QBound). bound.column == b.column) bs (made ∷ [])
     ∙ ap (λ test. test || ((made.column == b.column) || false)) (not-true (is_set b.column bs) tests.0) ∙ ap (λ test. test || false) (other_way b.column made.column parts.0) in
-    both_true (not (is_set b.column (bs ++ made ∷ []))) (are_once (bs ++ made ∷ [])) (not_from_false (is_set b.column (bs ++ made ∷ [])) unset) (once_push bs made parts.1 tests.1)
+    and_from (not (is_set b.column (bs ++ made ∷ []))) (are_once (bs ++ made ∷ [])) (not_from_false (is_set b.column (bs ++ made ∷ [])) unset) (once_push bs made parts.1 tests.1)
 
 -- the bounds made so far fit
 pub record AreBoundsFit (table : QTable) (bounds : List QBound) : Type 0 where
@@ -69,7 +73,7 @@ may_set table before name n e = by_found (column_named name.name 0 table.columns
 
 bound_step : (table : QTable) (before next : List QBound) (bound : TreeBound) → small_bound bound ≡ true → with_bound (bare_scope table) table before bound ≡ Ok next → AreBoundsFit table before → AreBoundsFit table next
 bound_step table before next bound small e p =
-    let tests = both (small_expr bound.lo) (small_expr bound.hi) small in
+    let tests = and_parts (small_expr bound.lo) (small_expr bound.hi) small in
     let scope : Scope = bare_scope table in
     let number = came_of (set_column table before bound.name (column_named bound.name.name 0 table.columns)) (λ number. number_in scope bound.lo >>= (λ lo. number_in scope bound.hi >>= (λ hi. Ok (before ++ record { column = number; lo = lo.expr; hi = hi.expr } ∷ [])))) next e in
     let lo = came_of (number_in scope bound.lo) (λ lo. number_in scope bound.hi >>= (λ hi. Ok (before ++ record { column = number.0; lo = lo.expr; hi = hi.expr } ∷ []))) next number.2 in

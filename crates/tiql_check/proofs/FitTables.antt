@@ -24,10 +24,12 @@ use Rattle.tiql_check.specs.Known.{is_taken}
 use Rattle.tiql_check.specs.Tables.{has_column, with_column, is_among, key_column, with_key_column, checked_table}
 use Rattle.tiql_check.specs.Hypos.{base_number, bare_scope, with_bound, droppable, over_table, table_at, checked_hypo}
 use Rattle.tiql_check.specs.Small.{small_bound, small_filter}
-use Rattle.tiql_check.proofs.Inverse.{came_of, kept, same_Ok, both, through}
+use Rattle.tiql_check.proofs.Inverse.{came_of, kept, through}
 use Rattle.tiql_check.proofs.Fit.{column_there}
 use Rattle.tiql_check.proofs.FitConds.{filter_fit}
 use Rattle.tiql_check.proofs.FitSet.{bounds_fit}
+use Rattle.std.proofs.lemmas.Bool.{and_parts}
+use Rattle.base_kit.proofs.Results.{same_Ok}
 
 -- nothing is asked of the parts
 pub any_part : {A : Type 0} (xs : List A) → list_all (λ x. true) xs ≡ true
@@ -80,7 +82,7 @@ with_key table (Some place) dropped e is = by_key table.key refl e
 pub hypo_fit : (known : Known) (tree : TreeHypo) (hypo : QHypo) → checked_hypo known tree ≡ Ok hypo → (list_all small_bound tree.set && small_filter tree.filter) ≡ true → IsHypoFit known.query hypo
 unfolding checked_hypo over_table
 hypo_fit known tree hypo e small =
-    let tests = both (list_all small_bound tree.set) (small_filter tree.filter) small in
+    let tests = and_parts (list_all small_bound tree.set) (small_filter tree.filter) small in
     let new = kept (is_taken known tree.name) (fault.SameName tree.name.place) (base_number known tree.table >>= (λ number. table_at known tree.table number >>= (λ table. over_table number table tree))) hypo e in
     let number = came_of (base_number known tree.table) (λ number. table_at known tree.table number >>= (λ table. over_table number table tree)) hypo new.1 in
     let table = came_of (table_at known tree.table number.0) (λ table. over_table number.0 table tree) hypo number.2 in

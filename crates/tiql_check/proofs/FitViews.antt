@@ -28,9 +28,10 @@ use Rattle.tiql_check.specs.Known.{is_taken}
 use Rattle.tiql_check.specs.Selects.{is_written, checked_select}
 use Rattle.tiql_check.specs.Views.{first_column, joined_column, with_joined, joined, is_first, no_arms, with_arm, checked_view}
 use Rattle.tiql_check.specs.Small.{small_select}
-use Rattle.tiql_check.proofs.Inverse.{came_of, kept, same_Ok, through}
+use Rattle.tiql_check.proofs.Inverse.{came_of, kept, through}
 use Rattle.tiql_check.proofs.Fit.{at_front}
 use Rattle.tiql_check.proofs.FitSelects.{AreThere, told, ArmFit, select_fit}
+use Rattle.base_kit.proofs.Results.{same_Ok}
 
 abbrev type_of : Column → Bool
 type_of column = column.text

@@ -1,10 +1,11 @@
 -- what a check that comes to something tells of its parts
-use Rattle.std.proofs.Common.{◌≡◌, Bool, true, false, ◌&&◌, ◌||◌, List, [], ◌∷◌, map, refl, sym, subst, if◌then◌else◌}
+use Rattle.std.proofs.Common.{◌≡◌, Bool, true, false, List, [], ◌∷◌, map, refl, subst, if◌then◌else◌}
 use Rattle.std.specs.Prelude.{Result, Ok, Err}
-use Rattle.std.proofs.lemmas.Bool.{false≢true}
 use Rattle.std.specs.List.{list_all}
 use Rattle.tiql_check.specs.declared.fault.SoundFault.{SoundFault}
 use Rattle.tiql_check.specs.Turns.{◌>>=◌, in_turn}
+use Rattle.std.proofs.lemmas.Bool.{and_parts}
+use Rattle.base_kit.proofs.Results.{same_Ok}
 
 -- the first check came to something, and so did the next
 pub came_of : {A B : Type 0} (r : Result A SoundFault) (f : A → Result B SoundFault) (b : B) → (r >>= f) ≡ Ok b → (a : A) × (r ≡ Ok a) × (f a ≡ Ok b)
@@ -16,24 +17,6 @@ pub kept : {A : Type 0} (broken : Bool) (w : SoundFault) (r : Result A SoundFaul
 kept true w r a e = absurd (let h : Err w ≡ Ok a = e in cc)
 kept false w r a e = (refl, e)
 
-pub same_Ok : {A : Type 0} (a b : A) → ◌≡◌ {A = Result A SoundFault} (Ok a) (Ok b) → a ≡ b
-same_Ok a b e = cc
-
--- of two tests
-pub both : (a b : Bool) → (a && b) ≡ true → (a ≡ true) × (b ≡ true)
-both true true h = (refl, refl)
-both true false h = absurd (false≢true h)
-both false true h = absurd (false≢true h)
-both false false h = absurd (false≢true h)
-
-pub both_true : (a b : Bool) → a ≡ true → b ≡ true → (a && b) ≡ true
-both_true true b one other = other
-both_true false b one other = absurd (false≢true one)
-
-pub neither : (a b : Bool) → (a || b) ≡ false → (a ≡ false) × (b ≡ false)
-neither true b h = absurd (false≢true (sym h))
-neither false b h = (refl, h)
-
 -- what holds before the first part, and of each next one, holds behind the last
 pub through : {S X : Type 0} (f : S → X → Result S SoundFault) (P : S → Type 0) (Q : X → Bool) → ((s next : S) (x : X) → Q x ≡ true → f s x ≡ Ok next → P s → P next)
     → (xs : List X) (s last : S) → list_all Q xs ≡ true → in_turn f s xs ≡ Ok last → P s → P last
@@ -41,7 +24,7 @@ unfolding in_turn
 through {S} {X} f P Q step [] s last all e p = subst P (same_Ok s last e) p
 through {S} {X} f P Q step (x ∷ xs) s last all e p =
     let one = came_of (f s x) (λ next. in_turn f next xs) last e in
-    let tests = both (Q x) (list_all Q xs) all in
+    let tests = and_parts (Q x) (list_all Q xs) all in
     through f P Q step xs one.0 last tests.1 one.2 (step s one.0 x tests.0 one.1 p)
 
 -- likewise where the parts are seen through g, and something is known of each
@@ -52,5 +35,5 @@ unfolding in_turn
 through_seen f first g q P step [] s last all e p = subst P (same_Ok s last e) p
 through_seen f first g q P step (w ∷ ws) s last all e p =
     let one = came_of (f s (g (first w))) (λ next. in_turn f next (map g (map first ws))) last e in
-    let tests = both (q (first w)) (list_all (λ test. test) (map q (map first ws))) all in
+    let tests = and_parts (q (first w)) (list_all (λ test. test) (map q (map first ws))) all in
     through_seen f first g q P step ws one.0 last tests.1 one.2 (step s one.0 w tests.0 one.1 p)

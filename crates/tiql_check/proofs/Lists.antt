@@ -8,7 +8,7 @@ use Rattle.tiql_query.specs.declared.relation.QBound.{QBound}
 use Rattle.tiql_query.specs.WellFormed.{with_set}
 use Rattle.tiql_check.specs.declared.scope.Found.{Found}
 use Rattle.tiql_check.specs.declared.known.Relation.{Relation}
-use Rattle.tiql_check.specs.Scopes.{same, kind_of, column_named}
+use Rattle.tiql_check.specs.Scopes.{same, column_named}
 use Rattle.tiql_check.specs.Known.{relation_named}
 use Rattle.tiql_check.specs.Hypos.{is_set}
 
@@ -23,10 +23,6 @@ relation_passed name relations i relation r lt is other h = sym (rw (drop_more r
 pub relation_missed : (name : List ℕ) (relations : List Relation) (i : ℕ) (r : Option Source) → length relations ≤ i → relation_named name (drop i relations) ≡ r → None ≡ r
 unfolding relation_named
 relation_missed name relations i r le h = sym (rw (drop_all i relations le)) ∙ h
-
-pub column_found : (name : List ℕ) (columns : List Column) (i : ℕ) (column : Column) (r : Option Found) → i < length columns → column ≡ get_or columns i column → same column.name name ≡ true → column_named name i (drop i columns) ≡ r → Some (record { number = i; kind = kind_of column }) ≡ r
-unfolding column_named
-column_found name columns i column r lt is found h = sym (rw (drop_more columns i column lt, ← is, found)) ∙ h
 
 pub column_passed : (name : List ℕ) (columns : List Column) (i : ℕ) (column : Column) (r : Option Found) → i < length columns → column ≡ get_or columns i column → same column.name name ≡ false → column_named name i (drop i columns) ≡ r → column_named name (i + 1) (drop (i + 1) columns) ≡ r
 unfolding column_named

@@ -14,13 +14,13 @@ use Rattle.tiql_check.specs.declared.scope.InScope.{InScope}
 use Rattle.tiql_tree.specs.declared.tree.TreeSource.{TreeSource}
 use Rattle.tiql_query.specs.declared.relation.Source.{Source}
 use Rattle.tiql_check.specs.declared.known.Known.{Known}
-use Rattle.tiql_check.specs.Turns.{Gives}
+use Rattle.tiql_check.specs.Turns.{ChecksTo}
 use Rattle.tiql_check.specs.Known.{declared, columns_in}
 use Rattle.tiql_check.specs.Selects.{Taken, has_alias, with_source}
 use Rattle.tiql_check.specs.Scopes.{seen, scope_of, fitting, of_source, candidates, only_one, meant}
 
 -- what a check comes to without want of memory
-pub gives-is : {A : Type 0} (outcome r : Result A SoundFault) → outcome ≡ r → Gives outcome r
+pub gives-is : {A : Type 0} (outcome r : Result A SoundFault) → outcome ≡ r → ChecksTo outcome r
 gives-is outcome (Ok a) is = is
 gives-is outcome (Err e) is = λ ne. is
 

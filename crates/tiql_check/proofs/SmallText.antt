@@ -58,9 +58,9 @@ use Rattle.tiql_tree.proofs.NeatCond.{only-Compare, only-Not, only-And, only-Or}
 use Rattle.tiql_tree.proofs.NeatTrees.{AllGood, in_parens_back, hypo_good, select_good, union_words, arms_good}
 use Rattle.tiql_tree.proofs.Parts.{parts_good}
 use Rattle.tiql_check.specs.Small.{all_true, small_step, small_expr_step, small_signed_step, small_expr, small_signed, small_form, small_cond, small_filter, small_value, small_select, small_bound, small_require, small_decl, small_goal, HasSmallNumbers}
-use Rattle.tiql_check.proofs.Inverse.{both_true}
 use Rattle.tiql_check.proofs.FitExprs.{small_expr-is, small_signed-is, small-Number, small-Sum, small-Product, small-Neg, small-Abs}
 use Rattle.tiql_check.proofs.FitConds.{small-Compare, small-Not, small-And, small-Or}
+use Rattle.std.proofs.lemmas.Bool.{and_from}
 
 small-Text : (t : List ℕ) → small_form (Text t) ≡ true
 unfolding small_form roll-TreeForm roll
@@ -75,13 +75,13 @@ small_at p f = small_expr-is (expr_at p f)
 
 -- a sign before a part and the parts behind it
 sign_before : (m : Bool) (e : TreeExpr) (more : List TreeSigned) → small_expr e ≡ true → all_true (map small_signed more) ≡ true → all_true (map small_signed (signed m e ∷ more)) ≡ true
-sign_before m e more one others = both_true (small_signed (signed m e)) (all_true (map small_signed more)) (small_signed-is (signed m e) ∙ one) others
+sign_before m e more one others = and_from (small_signed (signed m e)) (all_true (map small_signed more)) (small_signed-is (signed m e) ∙ one) others
 
 expr_before : (e : TreeExpr) (more : List TreeExpr) → small_expr e ≡ true → all_true (map small_expr more) ≡ true → all_true (map small_expr (e ∷ more)) ≡ true
-expr_before e more one others = both_true (small_expr e) (all_true (map small_expr more)) one others
+expr_before e more one others = and_from (small_expr e) (all_true (map small_expr more)) one others
 
 cond_before : (c : TreeCond) (more : List TreeCond) → small_cond c ≡ true → all_true (map small_cond more) ≡ true → all_true (map small_cond (c ∷ more)) ≡ true
-cond_before c more one others = both_true (small_cond c) (all_true (map small_cond more)) one others
+cond_before c more one others = and_from (small_cond c) (all_true (map small_cond more)) one others
 
 number_small : (text : List ℕ) → digits_value 10 text ≤ 10 ^ 15 → nat_le (unsigned_abs (pos (digits_value 10 text))) (10 ^ 15) ≡ true
 number_small text le = grind (arith, nat_tests, le)
@@ -138,12 +138,12 @@ mutual
   unit_small ps (denied unit) good = small-Not _ ∙ unit_small (drop 1 ps) unit good.1
   unit_small ps (bracketed cond) good = cond_small (drop 1 ps) cond (all_front (cond_words cond) _ good.1)
   unit_small ps (compared cmp one other) good =
-      small-Compare cmp _ _ ∙ both_true _ _ (expr_small ps one (all_front (expr_words one) _ good)) (expr_small _ other (all_back (expr_words one) _ good).1)
+      small-Compare cmp _ _ ∙ and_from _ _ (expr_small ps one (all_front (expr_words one) _ good)) (expr_small _ other (all_back (expr_words one) _ good).1)
 
 -- parts that follow one another
 laid_small : {A B : Type 0} (between : ℕ) (size : A → ℕ) (tree : Places → A → B) (q : B → Bool) (P : A → Type 0) → ((ps : Places) (x : A) → P x → q (tree ps x) ≡ true) → (ps : Places) (xs : List A) → AllByRecursion P xs → list_all q (laid between size tree ps xs) ≡ true
 laid_small between size tree q P small ps [] all = refl
-laid_small between size tree q P small ps (x ∷ xs) all = both_true (q (tree ps x)) (list_all q (laid between size tree (drop (size x + between) ps) xs)) (small ps x all.0) (laid_small between size tree q P small (drop (size x + between) ps) xs all.1)
+laid_small between size tree q P small ps (x ∷ xs) all = and_from (q (tree ps x)) (list_all q (laid between size tree (drop (size x + between) ps) xs)) (small ps x all.0) (laid_small between size tree q P small (drop (size x + between) ps) xs all.1)
 
 filter_small : (ps : Places) (f : Option CondText) → AllGood (filter_words f) → small_filter (filter_tree ps f) ≡ true
 filter_small ps None good = refl
@@ -153,7 +153,7 @@ bound_small : (ps : Places) (b : BoundText) → AllGood (bound_words b) → smal
 unfolding bound_tree bound_words
 bound_small ps b good =
     let head : List Word = named b.name ∷ key (codes "IN") ∷ expr_words b.lo in
-    both_true _ _ (expr_small _ b.lo (all_front head _ good).1.1) (expr_small _ b.hi (all_back head _ good).1)
+    and_from _ _ (expr_small _ b.lo (all_front head _ good).1.1) (expr_small _ b.hi (all_back head _ good).1)
 
 bounds_small : (ps : Places) (bounds : Option (Several BoundText)) → AllGood (bounds_words bounds) → list_all small_bound (laid_if (λ bound. length (bound_words bound)) bound_tree ps bounds) ≡ true
 bounds_small ps None good = refl
@@ -172,7 +172,7 @@ select_small : (ps : Places) (s : SelectText) → AllGood (select_words s) → s
 unfolding select_tree
 select_small ps s good =
     let parts = select_good s good in
-    both_true _ _ (filter_small (drop ((if s.is_distinct then 2 else 1) + length (with_between comma item_words s.items) + 1 + length (with_between comma source_words s.sources)) ps) s.filter parts.filter)
+    and_from _ _ (filter_small (drop ((if s.is_distinct then 2 else 1) + length (with_between comma item_words s.items) + 1 + length (with_between comma source_words s.sources)) ps) s.filter parts.filter)
     (laid_small 1 (λ item. length (item_words item)) item_tree (λ (item : TreeItem). small_value item.value) (λ i. AllGood (item_words i)) item_small (drop (if s.is_distinct then 2 else 1) ps) (parts_of s.items) (parts_good comma item_words s.items parts.items))
 
 require_small : (ps : Places) (r : RequireText) → AllGood (decl_words (require_decl r)) → small_require (require_tree ps r) ≡ true
@@ -186,7 +186,7 @@ unfolding decl_tree decl_words hypo_tree view_tree
 decl_small ps (table_decl table) good = refl
 decl_small ps (hypo_decl hypo) good =
     let parts = hypo_good hypo good in
-    both_true _ _ (bounds_small (drop 5 ps) hypo.bounds parts.bounds) (filter_small (drop (4 + length (bounds_words hypo.bounds)) ps) hypo.filter parts.filter)
+    and_from _ _ (bounds_small (drop 5 ps) hypo.bounds parts.bounds) (filter_small (drop (4 + length (bounds_words hypo.bounds)) ps) hypo.filter parts.filter)
 decl_small ps (view_decl view) good = laid_small 2 _ select_tree small_select (λ s. AllGood (select_words s)) select_small _ (parts_of view.arms) (parts_good union_words select_words view.arms (arms_good view good))
 decl_small ps (require_decl require) good = require_small ps require good
 
@@ -202,7 +202,7 @@ decls_good (d ∷ ds) good = (all_front (decl_words d) _ good, decls_good ds (al
 query_small : (ps : Places) (q : QueryText) → AllGood (query_words q) → HasSmallNumbers (query_tree ps q)
 unfolding query_tree query_words HasSmallNumbers
 query_small ps q good =
-    both_true _ _ (laid_small 0 _ decl_tree small_decl (λ d. AllGood (decl_words d)) decl_small ps q.decls (decls_good q.decls (all_front (flat_map decl_words q.decls) _ good)))
+    and_from _ _ (laid_small 0 _ decl_tree small_decl (λ d. AllGood (decl_words d)) decl_small ps q.decls (decls_good q.decls (all_front (flat_map decl_words q.decls) _ good)))
     (goal_small _ q.goal (all_back (flat_map decl_words q.decls) _ good))
 
 -- the tokens of a text are words

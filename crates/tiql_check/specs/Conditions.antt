@@ -17,6 +17,7 @@ use Rattle.tiql_check.specs.Turns.{◌>>=◌, in_turn}
 use Rattle.tiql_check.specs.Scopes.{Scope}
 use Rattle.tiql_check.specs.Expressions.{typed_in}
 
+-- the comparison of a query that is written so
 abbrev pub cmp_of : TreeCmp → Cmp
 cmp_of written.Eq = cmps.Eq
 cmp_of written.Ne = cmps.Ne
@@ -36,11 +37,13 @@ compared scope cmp one other = do
   right ← typed_in scope other
   if differ left.kind.text right.kind.text then Err (fault.WrongType other.place) else Ok (Compare (cmp_of cmp) left.expr right.expr)
 
+-- one more part of an AND or an OR
 abbrev pub with_part : List Cond → Result Cond SoundFault → Result (List Cond) SoundFault
 with_part before part = do
   cond ← part
   Ok (before ++ cond ∷ [])
 
+-- a condition whose parts are checked
 abbrev pub cond_checked : Scope → TreeCond-F (Result Cond SoundFault) → Result Cond SoundFault
 cond_checked scope (TreeCond-F.Compare cmp one other) = compared scope cmp one other
 cond_checked scope (TreeCond-F.Not part) = do
@@ -53,9 +56,11 @@ cond_checked scope (TreeCond-F.Or parts) = do
   all ← in_turn with_part [] parts
   Ok (Or all)
 
+-- the condition over these sources
 unfoldable pub cond_in : Scope → TreeCond → Result Cond SoundFault
 cond_in scope = fold-TreeCond (Result Cond SoundFault) (cond_checked scope)
 
+-- the condition behind WHERE, where there is one
 abbrev pub filter_in : Scope → Option TreeCond → Result (Option Cond) SoundFault
 filter_in scope None = Ok None
 filter_in scope (Some cond) = do

@@ -37,9 +37,11 @@ as_number place typed = if typed.kind.text then Err (fault.WrongType place) else
 abbrev pub whole_number : Part → Result Typed SoundFault
 whole_number part = part.typed >>= as_number part.place
 
+-- a part of a sum with its sign
 abbrev pub signed : Bool → Expr → Signed
 signed minus part = roll-Signed (record { minus = minus; part = part })
 
+-- before the first part of a sum
 abbrev pub no_terms : Terms
 no_terms = record { parts = []; unknown = false }
 
@@ -47,11 +49,13 @@ no_terms = record { parts = []; unknown = false }
 abbrev pub add_term : Terms → Bool → Typed → Terms
 add_term before minus term = record { parts = before.parts ++ signed minus term.expr ∷ []; unknown = before.unknown || term.kind.unknown }
 
+-- one more part of a sum, which has to be a whole number
 abbrev pub with_term : Terms → SignedPart → Result Terms SoundFault
 with_term before part = do
   term ← whole_number part.part
   Ok (add_term before part.minus term)
 
+-- before the first factor of a product
 abbrev pub no_factors : Factors
 no_factors = record { parts = []; unknown = false }
 
@@ -59,11 +63,13 @@ no_factors = record { parts = []; unknown = false }
 abbrev pub is_second_unknown : Factors → Typed → Bool
 is_second_unknown before factor = before.unknown && factor.kind.unknown
 
+-- one more factor of a product; a second unknown one is refused
 abbrev pub add_factor : Factors → Place → Typed → Result Factors SoundFault
 add_factor before place factor =
     if is_second_unknown before factor then Err (fault.NotLinear place)
     else Ok (record { parts = before.parts ++ factor.expr ∷ []; unknown = before.unknown || factor.kind.unknown })
 
+-- one more factor of a product, which has to be a whole number
 abbrev pub with_factor : Factors → Part → Result Factors SoundFault
 with_factor before part = do
   factor ← whole_number part
@@ -75,22 +81,27 @@ named_in scope ref = do
   it ← meant scope ref
   Ok (record { expr = Column it.at; kind = it.kind })
 
+-- the sum of these parts
 abbrev pub sum_of : List SignedPart → Result Typed SoundFault
 sum_of parts = do
   all ← in_turn with_term no_terms parts
   Ok (record { expr = Sum all.parts; kind = number all.unknown })
 
+-- the product of these factors
 abbrev pub product_of : List Part → Result Typed SoundFault
 product_of parts = do
   all ← in_turn with_factor no_factors parts
   Ok (record { expr = Product all.parts; kind = number all.unknown })
 
+-- a number behind a minus sign
 abbrev pub negated : Typed → Typed
 negated one = record { expr = Neg one.expr; kind = number one.kind.unknown }
 
+-- the size of a number
 abbrev pub absolute : Typed → Typed
 absolute one = record { expr = Abs one.expr; kind = number one.kind.unknown }
 
+-- a form whose parts are checked
 abbrev pub form_typed : Scope → TreeForm-F (Result Typed SoundFault) Part SignedPart → Result Typed SoundFault
 form_typed scope (TreeForm-F.Number n) = Ok (record { expr = Int n; kind = number false })
 form_typed scope (TreeForm-F.Text t) = Ok (record { expr = Text t; kind = record { text = true; unknown = false } })
@@ -104,18 +115,23 @@ form_typed scope (TreeForm-F.Abs part) = do
   one ← whole_number part
   Ok (absolute one)
 
+-- an expression whose form is checked
 abbrev pub expr_part : TreeExpr-F (Result Typed SoundFault) Part SignedPart → Part
 expr_part expr = record { place = expr.place; typed = expr.form }
 
+-- a part of a sum whose expression is checked
 abbrev pub signed_part : TreeSigned-F (Result Typed SoundFault) Part SignedPart → SignedPart
 signed_part part = record { minus = part.minus; part = part.part }
 
+-- the expression at its place, as a part
 unfoldable pub part_in : Scope → TreeExpr → Part
 part_in scope = fold-TreeExpr (Result Typed SoundFault) Part SignedPart (form_typed scope) expr_part signed_part
 
+-- the part of a sum
 unfoldable pub signed_in : Scope → TreeSigned → SignedPart
 signed_in scope = fold-TreeSigned (Result Typed SoundFault) Part SignedPart (form_typed scope) expr_part signed_part
 
+-- the form over these sources, with its type and mark
 unfoldable pub form_in : Scope → TreeForm → Result Typed SoundFault
 form_in scope = fold-TreeForm (Result Typed SoundFault) Part SignedPart (form_typed scope) expr_part signed_part
 

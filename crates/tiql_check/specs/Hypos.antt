@@ -29,6 +29,7 @@ table_number (Some (Table n)) = Some n
 table_number (Some (Hypo n)) = None
 table_number (Some (View n)) = None
 
+-- the number, which has to be there
 abbrev pub numbered : Spot → Option ℕ → Result ℕ SoundFault
 numbered spot None = Err (fault.UnknownName spot.place)
 numbered spot (Some n) = Ok n
@@ -41,6 +42,7 @@ base_number known spot = numbered spot (table_number (relation_named spot.name k
 abbrev pub bare_scope : QTable → Scope
 bare_scope table = record { alias = None; columns = table.columns } ∷ []
 
+-- an earlier bound is of this column
 abbrev pub is_set : ℕ → List QBound → Bool
 is_set number set = list_any (λ bound. bound.column == number) set
 
@@ -78,6 +80,7 @@ over_table number table hypo = do
   dropped ← droppable table hypo.dropped
   Ok (record { name = hypo.name.name; table = number; columns = with_set set 0 table.columns; set = set; filter = filter; droppable = dropped })
 
+-- the table with this number
 abbrev pub table_at : Known → Spot → ℕ → Result QTable SoundFault
 table_at known spot number = by_table (slice_get known.query.tables number)
   where
@@ -85,6 +88,7 @@ table_at known spot number = by_table (slice_get known.query.tables number)
     by_table None = Err (fault.UnknownName spot.place)
     by_table (Some table) = Ok table
 
+-- a hypothetical table: a new name over a declared table
 unfoldable pub checked_hypo : Known → TreeHypo → Result QHypo SoundFault
 checked_hypo known hypo = if is_taken known hypo.name then Err (fault.SameName hypo.name.place) else do
   number ← base_number known hypo.table

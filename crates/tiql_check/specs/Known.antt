@@ -31,6 +31,7 @@ abbrev pub declared_at : Spot → Option Source → Result Source SoundFault
 declared_at spot None = Err (fault.UnknownName spot.place)
 declared_at spot (Some source) = Ok source
 
+-- the relation of this name, which has to be declared
 abbrev pub declared : Known → Spot → Result Source SoundFault
 declared known spot = declared_at spot (relation_named spot.name known.relations)
 
@@ -42,26 +43,31 @@ is_taken known spot = list_any (λ relation. same relation.name spot.name) known
 unfoldable pub columns_in : Known → Source → List Column
 columns_in known source = unwrap_or (columns_of known.query source) []
 
+-- the relations with one more
 abbrev pub with_relation : Known → List ℕ → Source → List Relation
 with_relation known name source = known.relations ++ record { name = name; source = source } ∷ []
 
+-- what is known with one more table
 abbrev pub with_table : Known → QTable → Known
 with_table known table = record {
   relations = with_relation known table.name (Table (length known.query.tables));
   query = record known.query { tables = known.query.tables ++ table ∷ [] };
 }
 
+-- what is known with one more hypothetical table
 abbrev pub with_hypo : Known → QHypo → Known
 with_hypo known hypo = record {
   relations = with_relation known hypo.name (Hypo (length known.query.hypos));
   query = record known.query { hypos = known.query.hypos ++ hypo ∷ [] };
 }
 
+-- what is known with one more view
 abbrev pub with_view : Known → QView → Known
 with_view known view = record {
   relations = with_relation known view.name (View (length known.query.views));
   query = record known.query { views = known.query.views ++ view ∷ [] };
 }
 
+-- what is known with one more requirement
 abbrev pub with_require : Known → Require → Known
 with_require known require = record { relations = known.relations; query = record known.query { requires_ = known.query.requires_ ++ require ∷ [] } }

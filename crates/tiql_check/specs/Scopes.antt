@@ -20,12 +20,15 @@ pub record Seen : Type 0 where
   pub alias : Option (List ℕ)
   pub columns : List Column
 
+-- the sources whose columns may be named
 abbrev pub Scope : Type 0
 Scope = List Seen
 
+-- a source, as contracts see it
 abbrev pub seen : InScope → Seen
 seen it = record { alias = option_map (λ name. name.now) it.alias; columns = it.columns.now }
 
+-- the sources, as contracts see them
 unfoldable pub scope_of : List InScope → Scope
 scope_of scope = map seen scope
 
@@ -33,6 +36,7 @@ scope_of scope = map seen scope
 abbrev pub number : Bool → Kind
 number unknown = record { text = false; unknown = unknown }
 
+-- the type and mark of a column
 abbrev pub kind_of : Column → Kind
 kind_of column = record { text = column.text; unknown = column.unknown }
 
@@ -52,6 +56,7 @@ may_qualify (Some name) (Some alias) = same alias name
 abbrev pub fitting : TreeRef → Seen → Option Found
 fitting ref it = if may_qualify ref.relation it.alias then column_named ref.column 0 it.columns else None
 
+-- the column, where this source has it
 abbrev pub of_source : ℕ → Option Found → List Meant
 of_source n None = []
 of_source n (Some it) = record { at = record { source = n; column = it.number }; kind = it.kind } ∷ []

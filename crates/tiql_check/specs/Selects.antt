@@ -35,13 +35,16 @@ pub record Taken : Type 0 where
   pub sources : List Source
   pub scope : Scope
 
+-- the alias is this name
 abbrev pub is_alias : List ℕ → Option (List ℕ) → Bool
 is_alias name None = false
 is_alias name (Some alias) = same alias name
 
+-- the relations so far, as contracts see them
 abbrev pub taken : Lent → Taken
 taken it = record { sources = it.sources; scope = scope_of it.scope.items }
 
+-- before the first relation
 abbrev pub none_taken : Taken
 none_taken = record { sources = []; scope = [] }
 
@@ -65,6 +68,7 @@ with_group scope before ref = do
   it ← meant scope ref
   if it.kind.unknown then Err (fault.NotFixed ref.place) else Ok (before ++ it.at ∷ [])
 
+-- the value is an aggregate
 abbrev pub is_aggregate : TreeValue → Bool
 is_aggregate (values.Plain expr) = false
 is_aggregate (values.Sum expr) = true
@@ -72,10 +76,12 @@ is_aggregate values.Count = true
 is_aggregate (values.Min expr) = true
 is_aggregate (values.Max expr) = true
 
+-- there is a part
 abbrev pub is_written : {A : Type 0} → List A → Bool
 is_written [] = false
 is_written (x ∷ xs) = true
 
+-- an item is an aggregate
 abbrev pub has_aggregate : List TreeItem → Bool
 has_aggregate trees = list_any (λ item. is_aggregate item.value) trees
 
@@ -83,6 +89,7 @@ has_aggregate trees = list_any (λ item. is_aggregate item.value) trees
 unfoldable pub is_grouped : TreeSelect → Bool
 is_grouped select = is_written select.group || has_aggregate select.items
 
+-- an aggregate is an unknown whole number
 abbrev pub aggregate : Item → TypedItem
 aggregate item = record { item = item; kind = number true }
 
@@ -112,15 +119,19 @@ lone_step (Expr-F.Product parts) = None
 lone_step (Expr-F.Neg part) = None
 lone_step (Expr-F.Abs part) = None
 
+-- the column that the expression is, if it is one
 unfoldable pub lone_column : Expr → Option At
 lone_column = fold-Expr (Option At) (Option At) lone_step (λ part. part.part)
 
+-- two columns are one
 abbrev pub same_column : At → At → Bool
 same_column one other = one.source == other.source && one.column == other.column
 
+-- the column is one of these
 abbrev pub is_among : At → List At → Bool
 is_among at group = list_any (λ other. same_column other at) group
 
+-- there is a column, and it is one of GROUP BY
 abbrev pub is_in_group : List At → Option At → Bool
 is_in_group group None = false
 is_in_group group (Some at) = is_among at group
@@ -146,9 +157,11 @@ item_ruled rules group before item made =
     else if rules.grouped && not (fits_group group made.item) then Err (fault.NotGrouped item.place)
     else Ok made
 
+-- before the first item
 abbrev pub no_items : Items
 no_items = record { items = []; columns = [] }
 
+-- one more item, which keeps its rules
 unfoldable pub with_item : Rules → Scope → List At → Items → TreeItem → Result Items SoundFault
 with_item rules scope group before item = do
   made ← value_in scope item.value
@@ -158,6 +171,7 @@ with_item rules scope group before item = do
     columns = before.columns ++ record { name = item.name.name; place = item.place; kind = ruled.kind } ∷ [];
   })
 
+-- the columns of GROUP BY, where the select is grouped
 abbrev pub group_if : Bool → List At → Option (List At)
 group_if grouped group = if grouped then Some group else None
 

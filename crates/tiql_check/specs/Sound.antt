@@ -40,6 +40,7 @@ have known spot test = do
   cond ← cond_in (relation_scope known spot source) test
   Ok (source, cond)
 
+-- a requirement on a declared relation
 unfoldable pub checked_require : Known → TreeRequire → Result Require SoundFault
 checked_require known (tree_needs.All spot test) = do
   it ← have known spot test
@@ -73,6 +74,7 @@ summed known part spot = do
   one ← number_in (relation_scope known spot source) part
   Ok (source, one.expr)
 
+-- the goal over what is declared
 unfoldable pub checked_goal : Known → TreeGoal → Result Aim SoundFault
 checked_goal known goals.Find = Ok aims.Find
 checked_goal known (goals.Sum maximize part relation) = do

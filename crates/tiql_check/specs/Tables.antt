@@ -24,6 +24,7 @@ with_column before column =
     if has_column column.name.name before then Err (fault.SameName column.name.place)
     else Ok (before ++ record { name = column.name.name; text = column.text; unknown = false } ∷ [])
 
+-- the number is one of these
 abbrev pub is_among : ℕ → List ℕ → Bool
 is_among number numbers = list_any (λ other. other == number) numbers
 
@@ -32,9 +33,11 @@ abbrev pub key_column : List ℕ → Spot → Option Found → Result (List ℕ)
 key_column before name None = Err (fault.NoSuchKeyColumn name.place)
 key_column before name (Some it) = if is_among it.number before then Err (fault.SameName name.place) else Ok (before ++ it.number ∷ [])
 
+-- one more column of the KEY
 abbrev pub with_key_column : List Column → List ℕ → Spot → Result (List ℕ) SoundFault
 with_key_column columns before name = key_column before name (column_named name.name 0 columns)
 
+-- a table: a new name, its columns and its KEY
 unfoldable pub checked_table : Known → TreeTable → Result QTable SoundFault
 checked_table known table = if is_taken known table.name then Err (fault.SameName table.name.place) else do
   columns ← in_turn with_column [] table.columns

@@ -15,16 +15,16 @@ in_turn f before [] = Ok before
 in_turn f before (x ∷ xs) = f before x >>= (λ next. in_turn f next xs)
 
 -- this is what the check comes to, unless memory is wanting
-abbrev pub Gives : {A : Type 0} → Result A SoundFault → Result A SoundFault → Type 0
-Gives outcome (Ok a) = outcome ≡ Ok a
-Gives outcome (Err e) = e ≢ fault.Memory → outcome ≡ Err e
+abbrev pub ChecksTo : {A : Type 0} → Result A SoundFault → Result A SoundFault → Type 0
+ChecksTo outcome (Ok a) = outcome ≡ Ok a
+ChecksTo outcome (Err e) = e ≢ fault.Memory → outcome ≡ Err e
 
 -- likewise where what is made stands behind a reference, and is this
-abbrev pub Leaves : {A : Type 0} → Result A SoundFault → A → Result (Unit {0}) SoundFault → Type 0
-Leaves outcome made (Ok done) = outcome ≡ Ok made
-Leaves outcome made (Err e) = e ≢ fault.Memory → outcome ≡ Err e
+abbrev pub ChecksInto : {A : Type 0} → Result A SoundFault → A → Result (Unit {0}) SoundFault → Type 0
+ChecksInto outcome made (Ok done) = outcome ≡ Ok made
+ChecksInto outcome made (Err e) = e ≢ fault.Memory → outcome ≡ Err e
 
 -- likewise where what is made is seen so
-abbrev pub GivesAs : {A B : Type 0} → (B → A) → Result A SoundFault → Result B SoundFault → Type 0
-GivesAs as_seen outcome (Ok made) = outcome ≡ Ok (as_seen made)
-GivesAs as_seen outcome (Err e) = e ≢ fault.Memory → outcome ≡ Err e
+abbrev pub ChecksToAs : {A B : Type 0} → (B → A) → Result A SoundFault → Result B SoundFault → Type 0
+ChecksToAs as_seen outcome (Ok made) = outcome ≡ Ok (as_seen made)
+ChecksToAs as_seen outcome (Err e) = e ≢ fault.Memory → outcome ≡ Err e

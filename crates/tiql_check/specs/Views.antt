@@ -26,6 +26,7 @@ joined_column before it (Some column) =
     if differ column.text it.kind.text then Err (fault.WrongType it.place)
     else Ok (before ++ record { name = column.name; text = column.text; unknown = column.unknown || it.kind.unknown } ∷ [])
 
+-- the next column of a later select
 abbrev pub with_joined : List Column → List Column → ItemColumn → Result (List Column) SoundFault
 with_joined columns before it = joined_column before it (slice_get columns (length before))
 
@@ -36,18 +37,22 @@ joined first columns place others =
     else if length columns == length others then in_turn (with_joined columns) [] others
     else Err (fault.WrongType place)
 
+-- no select was checked yet
 abbrev pub is_first : Arms → Bool
 is_first before = not (is_written before.arms)
 
+-- before the first select
 abbrev pub no_arms : Arms
 no_arms = record { arms = []; columns = [] }
 
+-- one more select of a view
 unfoldable pub with_arm : Known → Arms → TreeSelect → Result Arms SoundFault
 with_arm known before select = do
   arm ← checked_select known (is_first before) select
   columns ← joined (is_first before) before.columns select.place arm.columns
   Ok (record { arms = before.arms ++ arm.select ∷ []; columns = columns })
 
+-- a view: a new name, and its selects
 unfoldable pub checked_view : Known → TreeView → Result QView SoundFault
 checked_view known view = if is_taken known view.name then Err (fault.SameName view.name.place) else do
   all ← in_turn (with_arm known) no_arms view.arms

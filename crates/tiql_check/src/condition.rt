@@ -2,7 +2,7 @@
 ghost use Rattle.std.specs.Prelude.{◌≡◌, map, []};
 ghost use Rattle.tiql_check.specs.Conditions as spec;
 ghost use Rattle.tiql_check.specs.Scopes.{scope_of};
-ghost use Rattle.tiql_check.specs.Turns.{Gives, in_turn};
+ghost use Rattle.tiql_check.specs.Turns.{ChecksTo, in_turn};
 
 use crate::SoundFault;
 use crate::expression::check_expression;
@@ -41,7 +41,7 @@ fn check_comparison(
     one: &TreeExpr,
     other: &TreeExpr,
 ) -> Result<Cond, SoundFault>
-    ensures { Gives (spec.compared (scope_of scope.now) cmp one.now other.now) result }
+    ensures { ChecksTo (spec.compared (scope_of scope.now) cmp one.now other.now) result }
 {
     let left = check_expression(alloc, scope, one)?;
     let right = check_expression(alloc, scope, other)?;
@@ -58,7 +58,7 @@ pub fn check_condition(
     scope: &[InScope<'_>],
     cond: &TreeCond,
 ) -> Result<Cond, SoundFault>
-    ensures { Gives (spec.cond_in (scope_of scope.now) cond.now) result }
+    ensures { ChecksTo (spec.cond_in (scope_of scope.now) cond.now) result }
 {
     match cond {
         TreeCond::Compare(cmp, one, other) => check_comparison(alloc, scope, *cmp, one, other),
@@ -77,7 +77,7 @@ fn check_conditions(
     scope: &[InScope<'_>],
     parts: &[TreeCond],
 ) -> Result<List<Cond>, SoundFault>
-    ensures { Gives (in_turn spec.with_part [] (map (spec.cond_in (scope_of scope.now)) parts.now)) result }
+    ensures { ChecksTo (in_turn spec.with_part [] (map (spec.cond_in (scope_of scope.now)) parts.now)) result }
 {
     let mut before = List::new(alloc);
     for part in parts {
@@ -92,7 +92,7 @@ pub fn check_filter(
     scope: &[InScope<'_>],
     cond: &Option<TreeCond>,
 ) -> Result<Option<Cond>, SoundFault>
-    ensures { Gives (spec.filter_in (scope_of scope.now) cond.now) result }
+    ensures { ChecksTo (spec.filter_in (scope_of scope.now) cond.now) result }
 {
     match cond {
         None => Ok(None),

@@ -2,7 +2,7 @@
 ghost use Rattle.std.specs.Prelude.{◌≡◌, map};
 ghost use Rattle.tiql_check.specs.Expressions as spec;
 ghost use Rattle.tiql_check.specs.Scopes.{scope_of};
-ghost use Rattle.tiql_check.specs.Turns.{Gives, Leaves, in_turn};
+ghost use Rattle.tiql_check.specs.Turns.{ChecksTo, ChecksInto, in_turn};
 
 use crate::SoundFault;
 use crate::scope::{InScope, Kind, resolve};
@@ -45,7 +45,7 @@ pub fn check_expression(
     scope: &[InScope<'_>],
     expr: &TreeExpr,
 ) -> Result<Typed, SoundFault>
-    ensures { Gives (spec.typed_in (scope_of scope.now) expr.now) result }
+    ensures { ChecksTo (spec.typed_in (scope_of scope.now) expr.now) result }
 {
     match &expr.form {
         TreeForm::Number(number) => Ok(Typed {
@@ -93,7 +93,7 @@ fn check_terms(
     scope: &[InScope<'_>],
     parts: &[TreeSigned],
 ) -> Result<Terms, SoundFault>
-    ensures { Gives (in_turn spec.with_term spec.no_terms (map (spec.signed_in (scope_of scope.now)) parts.now)) result }
+    ensures { ChecksTo (in_turn spec.with_term spec.no_terms (map (spec.signed_in (scope_of scope.now)) parts.now)) result }
 {
     let mut before = Terms {
         parts: List::new(alloc),
@@ -112,7 +112,7 @@ fn check_factors(
     scope: &[InScope<'_>],
     parts: &[TreeExpr],
 ) -> Result<Factors, SoundFault>
-    ensures { Gives (in_turn spec.with_factor spec.no_factors (map (spec.part_in (scope_of scope.now)) parts.now)) result }
+    ensures { ChecksTo (in_turn spec.with_factor spec.no_factors (map (spec.part_in (scope_of scope.now)) parts.now)) result }
 {
     let mut before = Factors {
         parts: List::new(alloc),
@@ -126,7 +126,7 @@ fn check_factors(
 }
 
 fn add_term(before: &mut Terms, minus: bool, term: Typed) -> Result<(), SoundFault>
-    ensures { Leaves (Ok (spec.add_term before.old minus term)) before.new result }
+    ensures { ChecksInto (Ok (spec.add_term before.old minus term)) before.new result }
 {
     before.unknown = before.unknown || term.kind.unknown;
     before.parts.push(Signed {
@@ -138,7 +138,7 @@ fn add_term(before: &mut Terms, minus: bool, term: Typed) -> Result<(), SoundFau
 
 // A product has one unknown factor at most.
 fn add_factor(before: &mut Factors, place: Place, factor: Typed) -> Result<(), SoundFault>
-    ensures { Leaves (spec.add_factor before.old place factor) before.new result }
+    ensures { ChecksInto (spec.add_factor before.old place factor) before.new result }
 {
     if before.unknown && factor.kind.unknown {
         return Err(SoundFault::NotLinear(place));
@@ -149,7 +149,7 @@ fn add_factor(before: &mut Factors, place: Place, factor: Typed) -> Result<(), S
 }
 
 fn check_name(scope: &[InScope<'_>], column: &TreeRef) -> Result<Typed, SoundFault>
-    ensures { Gives (spec.named_in (scope_of scope.now) column.now) result }
+    ensures { ChecksTo (spec.named_in (scope_of scope.now) column.now) result }
 {
     let meant = resolve(scope, column)?;
     Ok(Typed {
@@ -169,7 +169,7 @@ pub fn as_number(typed: Typed, place: Place) -> Result<Typed, SoundFault>
 }
 
 fn negated(alloc: Global, one: Typed) -> Result<Typed, SoundFault>
-    ensures { Gives (Ok (spec.negated one)) result }
+    ensures { ChecksTo (Ok (spec.negated one)) result }
 {
     Ok(Typed {
         expr: Expr::Neg(Boxed::new(alloc, one.expr)?),
@@ -178,7 +178,7 @@ fn negated(alloc: Global, one: Typed) -> Result<Typed, SoundFault>
 }
 
 fn absolute(alloc: Global, one: Typed) -> Result<Typed, SoundFault>
-    ensures { Gives (Ok (spec.absolute one)) result }
+    ensures { ChecksTo (Ok (spec.absolute one)) result }
 {
     Ok(Typed {
         expr: Expr::Abs(Boxed::new(alloc, one.expr)?),
@@ -193,7 +193,7 @@ pub fn check_number(
     scope: &[InScope<'_>],
     expr: &TreeExpr,
 ) -> Result<Typed, SoundFault>
-    ensures { Gives (spec.number_in (scope_of scope.now) expr.now) result }
+    ensures { ChecksTo (spec.number_in (scope_of scope.now) expr.now) result }
 {
     as_number(check_expression(alloc, scope, expr)?, expr.place)
 }

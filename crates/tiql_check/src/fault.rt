@@ -4,10 +4,10 @@ use base_kit::{Memory, Place};
 use std::alloc::{AllocError, AllocFailed};
 use thiserror::Error;
 
-/// The rule that a query breaks first, with the place at which it is told (docs/LANGUAGE.md, "Soundness").
+/// The first rule that a query breaks, with the place that is reported (docs/LANGUAGE.md, "Soundness").
 #[derive(Clone, Copy, Debug, PartialEq, Eq, Error)]
 pub enum SoundFault {
-    /// A name stands for nothing that may stand there. The place is that of the name, or of the first name of a column.
+    /// An unknown name: nothing that may stand there is called so. The place is that of the name, or of the first name of a column.
     #[error("unknown name")]
     UnknownName(Place),
     /// A name that is to differ from earlier ones is one of them, or a bare name is that of columns of two sources. The place is that
@@ -37,7 +37,7 @@ pub enum SoundFault {
     /// that of the item or of SELECT.
     #[error("not grouped")]
     NotGrouped(Place),
-    /// There was not enough memory, or there were more than 2^32 relations, sources or columns.
+    /// Out of memory, or there are more than 2^32 relations, sources or columns.
     #[error("out of memory")]
     Memory,
 }

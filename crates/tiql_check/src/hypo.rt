@@ -3,7 +3,7 @@ ghost use Rattle.std.specs.Prelude.{◌≡◌, [], IfOk};
 ghost use Rattle.tiql_query.specs.WellFormed as query;
 ghost use Rattle.tiql_check.specs.Hypos as spec;
 ghost use Rattle.tiql_check.specs.Scopes.{scope_of, column_named};
-ghost use Rattle.tiql_check.specs.Turns.{Gives, Leaves, in_turn};
+ghost use Rattle.tiql_check.specs.Turns.{ChecksTo, ChecksInto, in_turn};
 
 use crate::SoundFault;
 use crate::condition::check_filter;
@@ -39,7 +39,7 @@ fn is_set(number: u32, set: &[QBound]) -> bool
 
 // SET names columns of the table, each once, none of the KEY, and no texts.
 fn set_column(table: &QTable, before: &[QBound], name: &Spot) -> Result<u32, SoundFault>
-    ensures { Gives (spec.set_column table.now before.now name.now (column_named name.now.name 0 table.now.columns)) result }
+    ensures { ChecksTo (spec.set_column table.now before.now name.now (column_named name.now.name 0 table.now.columns)) result }
 {
     match find_column(table.columns.as_slice(), &name.name)? {
         None => Err(SoundFault::UnknownName(name.place)),
@@ -66,7 +66,7 @@ fn add_bound(
     before: &mut List<QBound>,
     bound: &TreeBound,
 ) -> Result<(), SoundFault>
-    ensures { Leaves (spec.with_bound (scope_of scope.now) table.now before.old bound.now) before.new result }
+    ensures { ChecksInto (spec.with_bound (scope_of scope.now) table.now before.old bound.now) before.new result }
 {
     let column = set_column(table, before.as_slice(), &bound.name)?;
     let lo = check_number(alloc, scope, &bound.lo)?;
@@ -85,7 +85,7 @@ fn check_bounds(
     table: &QTable,
     trees: &[TreeBound],
 ) -> Result<List<QBound>, SoundFault>
-    ensures { Gives (in_turn (spec.with_bound (scope_of scope.now) table.now) [] trees.now) result }
+    ensures { ChecksTo (in_turn (spec.with_bound (scope_of scope.now) table.now) [] trees.now) result }
 {
     let mut before = List::new(alloc);
     for bound in trees {
@@ -130,7 +130,7 @@ fn over_table(
     table: &QTable,
     tree: &TreeHypo,
 ) -> Result<QHypo, SoundFault>
-    ensures { Gives (spec.over_table number table.now tree.now) result }
+    ensures { ChecksTo (spec.over_table number table.now tree.now) result }
 {
     let scope = [InScope {
         alias: None,
@@ -152,7 +152,7 @@ fn over_table(
 /// A hypothetical table.
 #[tactic(auto, unfolding(crate::specs::Hypos::checked_hypo))]
 pub fn check_hypo(alloc: Global, known: &Known, tree: &TreeHypo) -> Result<QHypo, SoundFault>
-    ensures { Gives (spec.checked_hypo known.now tree.now) result }
+    ensures { ChecksTo (spec.checked_hypo known.now tree.now) result }
 {
     if is_taken(known, &tree.name) {
         return Err(SoundFault::SameName(tree.name.place));

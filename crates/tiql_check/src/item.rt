@@ -2,7 +2,7 @@
 ghost use Rattle.std.specs.Prelude.{◌≡◌};
 ghost use Rattle.tiql_check.specs.Scopes.{scope_of};
 ghost use Rattle.tiql_check.specs.Selects as spec;
-ghost use Rattle.tiql_check.specs.Turns.{Gives, Leaves, in_turn};
+ghost use Rattle.tiql_check.specs.Turns.{ChecksTo, ChecksInto, in_turn};
 
 use crate::SoundFault;
 use crate::expression::{check_expression, check_number};
@@ -59,7 +59,7 @@ fn check_value(
     scope: &[InScope<'_>],
     tree: &TreeValue,
 ) -> Result<TypedItem, SoundFault>
-    ensures { Gives (spec.value_in (scope_of scope.now) tree.now) result }
+    ensures { ChecksTo (spec.value_in (scope_of scope.now) tree.now) result }
 {
     match tree {
         TreeValue::Plain(expr) => {
@@ -181,7 +181,7 @@ fn add_item(
     before: &mut Items,
     tree: &TreeItem,
 ) -> Result<(), SoundFault>
-    ensures { Leaves (spec.with_item rules (scope_of scope.now) group.now before.old tree.now) before.new result }
+    ensures { ChecksInto (spec.with_item rules (scope_of scope.now) group.now before.old tree.now) before.new result }
 {
     let made = check_value(alloc, scope, &tree.value)?;
     let made = check_rules(rules, group, before.columns.as_slice(), tree, made)?;
@@ -202,7 +202,7 @@ pub fn check_items(
     group: &[At],
     trees: &[TreeItem],
 ) -> Result<Items, SoundFault>
-    ensures { Gives (in_turn (spec.with_item rules (scope_of scope.now) group.now) spec.no_items trees.now) result }
+    ensures { ChecksTo (in_turn (spec.with_item rules (scope_of scope.now) group.now) spec.no_items trees.now) result }
 {
     let mut before = Items {
         items: List::new(alloc),

@@ -16,6 +16,3 @@ mod view;
 
 pub use fault::SoundFault;
 pub use query::check;
-
-#[cfg(test)]
-mod tests;

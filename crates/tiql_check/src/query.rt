@@ -5,7 +5,7 @@ ghost use Rattle.tiql_tree.specs.Unplaced.{HasText};
 ghost use Rattle.tiql_check.specs.Sound as spec;
 ghost use Rattle.tiql_check.specs.Sound.{Sound, FirstBroken};
 ghost use Rattle.tiql_check.specs.Known.{nothing};
-ghost use Rattle.tiql_check.specs.Turns.{Gives, Leaves, in_turn};
+ghost use Rattle.tiql_check.specs.Turns.{ChecksTo, ChecksInto, in_turn};
 
 use crate::SoundFault;
 use crate::condition::check_condition;
@@ -29,7 +29,7 @@ fn check_have(
     spot: &Spot,
     test: &TreeCond,
 ) -> Result<(Source, Cond), SoundFault>
-    ensures { Gives (spec.have known.now spot.now test.now) result }
+    ensures { ChecksTo (spec.have known.now spot.now test.now) result }
 {
     let source = declared(known, spot)?;
     let scope = [InScope {
@@ -42,7 +42,7 @@ fn check_have(
 
 #[tactic(auto, unfolding(crate::specs::Sound::checked_require))]
 fn check_require(alloc: Global, known: &Known, tree: &TreeRequire) -> Result<Require, SoundFault>
-    ensures { Gives (spec.checked_require known.now tree.now) result }
+    ensures { ChecksTo (spec.checked_require known.now tree.now) result }
 {
     match tree {
         TreeRequire::All(spot, test) => {
@@ -59,7 +59,7 @@ fn check_require(alloc: Global, known: &Known, tree: &TreeRequire) -> Result<Req
 
 #[tactic(auto, unfolding(crate::specs::Sound::with_decl))]
 fn add_decl(alloc: Global, known: &mut Known, decl: &Decl) -> Result<(), SoundFault>
-    ensures { Leaves (spec.with_decl known.old decl.now) known.new result }
+    ensures { ChecksInto (spec.with_decl known.old decl.now) known.new result }
 {
     match decl {
         Decl::Table(tree) => {
@@ -83,7 +83,7 @@ fn add_decl(alloc: Global, known: &mut Known, decl: &Decl) -> Result<(), SoundFa
 }
 
 fn check_declarations(alloc: Global, decls: &[Decl]) -> Result<Known, SoundFault>
-    ensures { Gives (in_turn spec.with_decl nothing decls.now) result }
+    ensures { ChecksTo (in_turn spec.with_decl nothing decls.now) result }
 {
     let mut known = nothing(alloc);
     for decl in decls {
@@ -100,7 +100,7 @@ fn check_summed(
     part: &TreeExpr,
     relation: &Spot,
 ) -> Result<(Source, Expr), SoundFault>
-    ensures { Gives (spec.summed known.now part.now relation.now) result }
+    ensures { ChecksTo (spec.summed known.now part.now relation.now) result }
 {
     let source = declared(known, relation)?;
     let scope = [InScope {
@@ -113,7 +113,7 @@ fn check_summed(
 
 #[tactic(auto, unfolding(crate::specs::Sound::checked_goal))]
 fn check_goal(alloc: Global, known: &Known, tree: &TreeGoal) -> Result<Aim, SoundFault>
-    ensures { Gives (spec.checked_goal known.now tree.now) result }
+    ensures { ChecksTo (spec.checked_goal known.now tree.now) result }
 {
     match tree {
         TreeGoal::Find => Ok(Aim::Find),
@@ -134,7 +134,7 @@ fn check_goal(alloc: Global, known: &Known, tree: &TreeGoal) -> Result<Aim, Soun
 
 #[tactic(auto, unfolding(crate::specs::Sound::checked))]
 fn check_tree(alloc: Global, tree: &Tree) -> Result<Query, SoundFault>
-    ensures { Gives (spec.checked tree.now) result }
+    ensures { ChecksTo (spec.checked tree.now) result }
 {
     let known = check_declarations(alloc, tree.decls.as_slice())?;
     let aim = check_goal(alloc, &known, &tree.goal)?;

@@ -2,7 +2,7 @@
 ghost use Rattle.std.specs.Prelude.{◌≡◌, IfOk};
 ghost use Rattle.std.specs.Option.{option_map};
 ghost use Rattle.tiql_check.specs.Scopes as spec;
-ghost use Rattle.tiql_check.specs.Turns.{Gives};
+ghost use Rattle.tiql_check.specs.Turns.{ChecksTo};
 
 use crate::SoundFault;
 use crate::number::number_of;
@@ -110,7 +110,7 @@ fn find_in(relation: &InScope<'_>, column: &TreeRef) -> Result<Option<Found>, Me
 
 /// The column that a name means: a bare name must be that of a column of one relation in scope, and of no other.
 pub fn resolve(scope: &[InScope<'_>], column: &TreeRef) -> Result<Meant, SoundFault>
-    ensures { Gives (spec.meant (spec.scope_of scope.now) column.now) result }
+    ensures { ChecksTo (spec.meant (spec.scope_of scope.now) column.now) result }
 {
     let mut meant = None;
     for (source, relation) in scope.iter().enumerate() {

@@ -3,7 +3,7 @@ ghost use Rattle.std.specs.Prelude.{◌≡◌, [], option_map};
 ghost use Rattle.std.specs.List.{list_any};
 ghost use Rattle.tiql_check.specs.Scopes.{scope_of};
 ghost use Rattle.tiql_check.specs.Selects as spec;
-ghost use Rattle.tiql_check.specs.Turns.{Gives, GivesAs, Leaves, in_turn};
+ghost use Rattle.tiql_check.specs.Turns.{ChecksTo, ChecksToAs, ChecksInto, in_turn};
 
 use crate::SoundFault;
 use crate::condition::check_filter;
@@ -61,7 +61,7 @@ fn add_source<'a>(
     before: &mut Lent<'a>,
     tree: &'a TreeSource,
 ) -> Result<(), SoundFault>
-    ensures { Leaves (spec.with_source known.now (spec.taken before.old) tree.now) (spec.taken before.new) result }
+    ensures { ChecksInto (spec.with_source known.now (spec.taken before.old) tree.now) (spec.taken before.new) result }
 {
     let source = declared(known, &tree.relation)?;
     if has_alias(&tree.alias.name, before.scope.as_slice()) {
@@ -81,7 +81,7 @@ fn check_sources<'a>(
     known: &'a Known,
     trees: &'a [TreeSource],
 ) -> Result<Lent<'a>, SoundFault>
-    ensures { GivesAs spec.taken (in_turn (spec.with_source known.now) spec.none_taken trees.now) result }
+    ensures { ChecksToAs spec.taken (in_turn (spec.with_source known.now) spec.none_taken trees.now) result }
 {
     let mut before = Lent {
         sources: List::new(alloc),
@@ -99,7 +99,7 @@ fn add_group(
     before: &mut List<At>,
     column: &TreeRef,
 ) -> Result<(), SoundFault>
-    ensures { Leaves (spec.with_group (scope_of scope.now) before.old column.now) before.new result }
+    ensures { ChecksInto (spec.with_group (scope_of scope.now) before.old column.now) before.new result }
 {
     let meant = resolve(scope, column)?;
     if meant.kind.unknown {
@@ -114,7 +114,7 @@ fn check_group(
     scope: &[InScope<'_>],
     columns: &[TreeRef],
 ) -> Result<List<At>, SoundFault>
-    ensures { Gives (in_turn (spec.with_group (scope_of scope.now)) [] columns.now) result }
+    ensures { ChecksTo (in_turn (spec.with_group (scope_of scope.now)) [] columns.now) result }
 {
     let mut before = List::new(alloc);
     for column in columns {
@@ -158,7 +158,7 @@ fn check_select_items(
     tree: &TreeSelect,
     filter: Option<Cond>,
 ) -> Result<Arm, SoundFault>
-    ensures { Gives (spec.items_in first (spec.taken taken.entry) tree.now filter) result }
+    ensures { ChecksTo (spec.items_in first (spec.taken taken.entry) tree.now filter) result }
 {
     let scope = taken.scope.as_slice();
     let group = check_group(alloc, scope, tree.group.as_slice())?;
@@ -192,7 +192,7 @@ pub fn check_select(
     first: bool,
     tree: &TreeSelect,
 ) -> Result<Arm, SoundFault>
-    ensures { Gives (spec.checked_select known.now first tree.now) result }
+    ensures { ChecksTo (spec.checked_select known.now first tree.now) result }
 {
     let taken = check_sources(alloc, known, tree.sources.as_slice())?;
     let filter = check_filter(alloc, taken.scope.as_slice(), &tree.filter)?;

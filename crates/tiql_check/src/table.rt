@@ -1,7 +1,7 @@
 //! Tables.
 ghost use Rattle.std.specs.Prelude.{◌≡◌, []};
 ghost use Rattle.tiql_check.specs.Tables as spec;
-ghost use Rattle.tiql_check.specs.Turns.{Gives, Leaves, in_turn};
+ghost use Rattle.tiql_check.specs.Turns.{ChecksTo, ChecksInto, in_turn};
 
 use crate::SoundFault;
 use crate::known::{Known, is_taken};
@@ -30,7 +30,7 @@ fn add_column(
     before: &mut List<Column>,
     column: &TreeColumn,
 ) -> Result<(), SoundFault>
-    ensures { Leaves (spec.with_column before.old column.now) before.new result }
+    ensures { ChecksInto (spec.with_column before.old column.now) before.new result }
 {
     if has_column(&column.name.name, before.as_slice()) {
         return Err(SoundFault::SameName(column.name.place));
@@ -44,7 +44,7 @@ fn add_column(
 }
 
 fn check_columns(alloc: Global, trees: &[TreeColumn]) -> Result<List<Column>, SoundFault>
-    ensures { Gives (in_turn spec.with_column [] trees.now) result }
+    ensures { ChecksTo (in_turn spec.with_column [] trees.now) result }
 {
     let mut before = List::new(alloc);
     for column in trees {
@@ -55,7 +55,7 @@ fn check_columns(alloc: Global, trees: &[TreeColumn]) -> Result<List<Column>, So
 
 // A KEY names columns of its table, each once.
 fn add_key_column(columns: &[Column], before: &mut List<u32>, name: &Spot) -> Result<(), SoundFault>
-    ensures { Leaves (spec.with_key_column columns.now before.old name.now) before.new result }
+    ensures { ChecksInto (spec.with_key_column columns.now before.old name.now) before.new result }
 {
     match find_column(columns, &name.name)? {
         None => Err(SoundFault::NoSuchKeyColumn(name.place)),
@@ -70,7 +70,7 @@ fn add_key_column(columns: &[Column], before: &mut List<u32>, name: &Spot) -> Re
 }
 
 fn check_key(alloc: Global, columns: &[Column], names: &[Spot]) -> Result<List<u32>, SoundFault>
-    ensures { Gives (in_turn (spec.with_key_column columns.now) [] names.now) result }
+    ensures { ChecksTo (in_turn (spec.with_key_column columns.now) [] names.now) result }
 {
     let mut before = List::new(alloc);
     for name in names {
@@ -82,7 +82,7 @@ fn check_key(alloc: Global, columns: &[Column], names: &[Spot]) -> Result<List<u
 /// A table.
 #[tactic(auto, unfolding(crate::specs::Tables::checked_table))]
 pub fn check_table(alloc: Global, known: &Known, tree: &TreeTable) -> Result<QTable, SoundFault>
-    ensures { Gives (spec.checked_table known.now tree.now) result }
+    ensures { ChecksTo (spec.checked_table known.now tree.now) result }
 {
     if is_taken(known, &tree.name) {
         return Err(SoundFault::SameName(tree.name.place));

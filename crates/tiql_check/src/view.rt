@@ -1,6 +1,6 @@
 //! Views.
 ghost use Rattle.std.specs.Prelude.{◌≡◌, [], IfOk, map};
-ghost use Rattle.tiql_check.specs.Turns.{Gives, Leaves, in_turn};
+ghost use Rattle.tiql_check.specs.Turns.{ChecksTo, ChecksInto, in_turn};
 ghost use Rattle.tiql_check.specs.Views as spec;
 
 use crate::SoundFault;
@@ -44,7 +44,7 @@ fn add_joined(
     before: &mut List<Column>,
     item: &ItemColumn,
 ) -> Result<(), SoundFault>
-    ensures { Leaves (spec.with_joined columns.now before.old item.now) before.new result }
+    ensures { ChecksInto (spec.with_joined columns.now before.old item.now) before.new result }
 {
     match columns.get(before.len()) {
         None => Err(SoundFault::WrongType(item.place)),
@@ -67,7 +67,7 @@ fn join_columns(
     columns: &[Column],
     items: &[ItemColumn],
 ) -> Result<List<Column>, SoundFault>
-    ensures { Gives (in_turn (spec.with_joined columns.now) [] items.now) result }
+    ensures { ChecksTo (in_turn (spec.with_joined columns.now) [] items.now) result }
 {
     let mut before = List::new(alloc);
     for item in items {
@@ -85,7 +85,7 @@ fn joined(
     place: Place,
     items: &[ItemColumn],
 ) -> Result<List<Column>, SoundFault>
-    ensures { Gives (spec.joined first columns.now place items.now) result }
+    ensures { ChecksTo (spec.joined first columns.now place items.now) result }
 {
     if first {
         return Ok(first_columns(alloc, items)?);
@@ -103,7 +103,7 @@ fn add_arm(
     before: &mut Arms,
     tree: &TreeSelect,
 ) -> Result<(), SoundFault>
-    ensures { Leaves (spec.with_arm known.now before.old tree.now) before.new result }
+    ensures { ChecksInto (spec.with_arm known.now before.old tree.now) before.new result }
 {
     let first = before.arms.is_empty();
     let Arm {
@@ -122,7 +122,7 @@ fn add_arm(
 }
 
 fn check_arms(alloc: Global, known: &Known, trees: &[TreeSelect]) -> Result<Arms, SoundFault>
-    ensures { Gives (in_turn (spec.with_arm known.now) spec.no_arms trees.now) result }
+    ensures { ChecksTo (in_turn (spec.with_arm known.now) spec.no_arms trees.now) result }
 {
     let mut before = Arms {
         arms: List::new(alloc),
@@ -137,7 +137,7 @@ fn check_arms(alloc: Global, known: &Known, trees: &[TreeSelect]) -> Result<Arms
 /// A view.
 #[tactic(auto, unfolding(crate::specs::Views::checked_view))]
 pub fn check_view(alloc: Global, known: &Known, tree: &TreeView) -> Result<QView, SoundFault>
-    ensures { Gives (spec.checked_view known.now tree.now) result }
+    ensures { ChecksTo (spec.checked_view known.now tree.now) result }
 {
     if is_taken(known, &tree.name) {
         return Err(SoundFault::SameName(tree.name.place));

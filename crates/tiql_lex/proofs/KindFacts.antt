@@ -29,12 +29,6 @@ no_word-Name true q e = cc
 no_word-Name false true e = cc
 no_word-Name false false e = cc
 
-no_word-Keyword : (d q : Bool) → no_word d q ≡ Keyword → ⊥
-unfolding no_word
-no_word-Keyword true q e = cc
-no_word-Keyword false true e = cc
-no_word-Keyword false false e = cc
-
 word_kind : (k : Bool) → TokenKind
 word_kind k = cond {A = TokenKind} k Keyword Name
 
@@ -42,11 +36,6 @@ word_kind-Name : (k : Bool) → word_kind k ≡ Name → k ≡ false
 unfolding word_kind
 word_kind-Name true e = cc
 word_kind-Name false e = refl
-
-word_kind-Keyword : (k : Bool) → word_kind k ≡ Keyword → k ≡ true
-unfolding word_kind
-word_kind-Keyword true e = refl
-word_kind-Keyword false e = cc
 
 word_kind-Number : (k : Bool) → word_kind k ≡ Number → ⊥
 unfolding word_kind
@@ -69,16 +58,6 @@ kind_name (b ∷ bs) shape kind short = by_word (starts_name b) refl shape kind
         → cond {A = TokenKind} w (word_kind (is_keyword (b ∷ bs))) (no_word (is_ascii_digit b) (nat_eq b 39)) ≡ Name → ((starts_name b && list_all continues_name bs) && nat_le (length (b ∷ bs)) 64 && not (is_keyword (b ∷ bs))) ≡ true
     by_word true w shape kind = rw (w, shape, le_test (length (b ∷ bs)) 64 short, word_kind-Name (is_keyword (b ∷ bs)) kind) refl
     by_word false w shape kind = absurd (no_word-Name (is_ascii_digit b) (nat_eq b 39) kind)
-
--- a lexeme of this kind is reserved
-pub kind_keyword : (lexeme : List ℕ) → kind_of lexeme ≡ Keyword → is_keyword lexeme ≡ true
-unfolding word_kind no_word
-kind_keyword [] kind = cc
-kind_keyword (b ∷ bs) kind = by_word (starts_name b) kind
-  where
-    by_word : (w : Bool) → cond {A = TokenKind} w (word_kind (is_keyword (b ∷ bs))) (no_word (is_ascii_digit b) (nat_eq b 39)) ≡ Keyword → is_keyword (b ∷ bs) ≡ true
-    by_word true kind = word_kind-Keyword (is_keyword (b ∷ bs)) kind
-    by_word false kind = absurd (no_word-Keyword (is_ascii_digit b) (nat_eq b 39) kind)
 
 -- a lexeme of this kind that fits is a number
 pub kind_number : (lexeme : List ℕ) → is_lexeme lexeme ≡ true → kind_of lexeme ≡ Number → digits_value 10 lexeme ≤ 10 ^ 15 → is_number lexeme ≡ true

@@ -2,7 +2,7 @@
 use Rattle.std.proofs.Common.{◌≡◌, ℕ, ◌-◌, ◌≤◌, Bool, true, false, cond, nat_eq, List, [], ◌∷◌, ◌++◌, length, get_or, take, drop, take_all, refl, sym, ◌∙◌, ap, subst, append_assoc, arith, Result, Ok, Err, IfOk, IfSome, IfNone, option_map}
 use Rattle.std.proofs.lemmas.Bool.Decides.{nat_tests}
 use Rattle.std.proofs.lemmas.List.{append-nil}
-use Rattle.std.proofs.lemmas.Option.{none-some}
+use Rattle.std.proofs.lemmas.Option.{none-some, same_Some}
 use Rattle.std.specs.declared.option.Option.{Option}
 use Rattle.std.specs.declared.option.Option.TheVariants.{None, Some}
 use Rattle.std.specs.Str.{IsUtf8}
@@ -12,9 +12,6 @@ use Rattle.tiql_lex.specs.Scan.{value_from}
 
 is_quote : (b : ℕ) → nat_eq b 39 ≡ true → b ≡ 39
 is_quote b e = grind (arith, nat_tests)
-
-same_some : {A : Type 0} (x y : A) → ◌≡◌ {A = Option A} (Some x) (Some y) → x ≡ y
-same_some x y e = cc
 
 -- the bytes go on a text of which this was read, up to its last quote
 record Spells (read bytes value : List ℕ) : Type 0 where
@@ -46,7 +43,7 @@ bytes_behind false bytes = bytes
 value_takes : (read : List ℕ) (ended : Bool) (bytes value : List ℕ) → value_from read ended bytes ≡ Some value → Spells read (bytes_behind ended bytes) value
 unfolding bytes_behind
 value_takes read false [] value e = absurd (none-some value e)
-value_takes read true [] value e = record { more = []; whole = sym (same_some read value e) ∙ sym (append-nil read); spelling = refl }
+value_takes read true [] value e = record { more = []; whole = sym (same_Some read value e) ∙ sym (append-nil read); spelling = refl }
 value_takes read false (b ∷ bytes) value e = by_quote (nat_eq b 39) refl (value_takes read true bytes value) (value_takes (read ++ b ∷ []) false bytes value) e
   where
     by_quote : (t : Bool) → nat_eq b 39 ≡ t → (value_from read true bytes ≡ Some value → Spells read (39 ∷ bytes) value) → (value_from (read ++ b ∷ []) false bytes ≡ Some value → Spells (read ++ b ∷ []) bytes value) → cond t (value_from read true bytes) (value_from (read ++ b ∷ []) false bytes) ≡ Some value → Spells read (b ∷ bytes) value
@@ -77,7 +74,7 @@ quoted_again value = value_again [] value
 
 -- a value has one spelling
 pub same_value : (one other : List ℕ) → quoted one ≡ quoted other → one ≡ other
-same_value one other same = same_some one other (sym (quoted_again one) ∙ ap value_of_text same ∙ quoted_again other)
+same_value one other same = same_Some one other (sym (quoted_again one) ∙ ap value_of_text same ∙ quoted_again other)
 
 -- behind the first quote
 pub value_some : (text rest value : List ℕ) → 1 ≤ length text → get_or text 0 0 ≡ 39 → rest ≡ take (length text - 1) (drop 1 text) → value_from [] false rest ≡ Some value → text ≡ quoted value

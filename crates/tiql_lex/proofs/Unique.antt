@@ -8,7 +8,7 @@ use Rattle.tiql_lex.specs.declared.token.Token.{Token}
 use Rattle.tiql_lex.specs.declared.token.TokenKind.{TokenKind}
 use Rattle.tiql_lex.specs.declared.token.Lexed.{Lexed}
 use Rattle.tiql_lex.specs.Kinds.{kind_of}
-use Rattle.tiql_lex.specs.Lexed.{text_of, Stands, Skips, AreTokens, end_of, IsStop, IsLexed}
+use Rattle.tiql_lex.specs.Lexed.{text_of, Stands, Skips, AreTokens, end_of, IsLexicalStop, IsLexed}
 use Rattle.tiql_lex.specs.Lexemes.{IsFirstLexeme}
 use Rattle.tiql_lex.specs.Places.{mark_size, place_at}
 use Rattle.tiql_lex.proofs.Lexing.{same_first}
@@ -46,7 +46,7 @@ record Same (one other : List Token) (stop stop' : Option Place) : Type 0 where
   lists : one ≡ other
   stops : stop ≡ stop'
 
-same_stop : (bytes : List ℕ) (last : ℕ) (stop stop' : Option Place) → IsStop bytes last stop → IsStop bytes last stop' → stop ≡ stop'
+same_stop : (bytes : List ℕ) (last : ℕ) (stop stop' : Option Place) → IsLexicalStop bytes last stop → IsLexicalStop bytes last stop' → stop ≡ stop'
 same_stop bytes last None None one other = refl
 same_stop bytes last None (Some place) one other =
     let same = same_skip bytes last (length bytes) other.0 one other.1 in absurd (omega (arith, other.2, same))
@@ -56,13 +56,13 @@ same_stop bytes last (Some place) (Some place') one other =
     let same = same_skip bytes last one.0 other.0 one.1 other.1 in ap Some (one.3 ∙ ap (place_at bytes) same ∙ sym other.3)
 
 -- a token begins where nothing is to begin
-no_token : (bytes : List ℕ) (last : ℕ) (stop : Option Place) (token : Token) → IsStop bytes last stop → Skips bytes last token.from → Stands bytes token.from token → ⊥
+no_token : (bytes : List ℕ) (last : ℕ) (stop : Option Place) (token : Token) → IsLexicalStop bytes last stop → Skips bytes last token.from → Stands bytes token.from token → ⊥
 no_token bytes last None token stop skips stands =
     let same = same_skip bytes last (length bytes) token.from stop skips in omega (arith, same, stands.order, stands.inside)
 no_token bytes last (Some place) token stop skips stands =
     let same = same_skip bytes last stop.0 token.from stop.1 skips in stop.4 token (subst (λ n. Stands bytes n token) (sym same) stands)
 
-same_lists : (bytes : List ℕ) (last : ℕ) (tokens others : List Token) (stop stop' : Option Place) → AreTokens bytes last tokens → AreTokens bytes last others → IsStop bytes (end_of last tokens) stop → IsStop bytes (end_of last others) stop' → Same tokens others stop stop'
+same_lists : (bytes : List ℕ) (last : ℕ) (tokens others : List Token) (stop stop' : Option Place) → AreTokens bytes last tokens → AreTokens bytes last others → IsLexicalStop bytes (end_of last tokens) stop → IsLexicalStop bytes (end_of last others) stop' → Same tokens others stop stop'
 unfolding AreTokens
 same_lists bytes last [] [] stop stop' one other s s' = record { lists = refl; stops = same_stop bytes last stop stop' s s' }
 same_lists bytes last [] (u ∷ us) stop stop' one other s s' = absurd (no_token bytes last stop u s other.0 other.1)
@@ -71,7 +71,7 @@ same_lists bytes last (t ∷ ts) (u ∷ us) stop stop' one other s s' =
     let from = same_skip bytes last t.from u.from one.0 other.0 in
     let head = same_token bytes t.from t u one.1 (subst (λ n. Stands bytes n u) (sym from) other.1) in
     let to : u.to ≡ t.to = ap (λ (x : Token). x.to) (sym head) in
-    let tail = same_lists bytes t.to ts us stop stop' one.2 (subst (λ n. AreTokens bytes n us) to other.2) s (subst (λ n. IsStop bytes (end_of n us) stop') to s') in
+    let tail = same_lists bytes t.to ts us stop stop' one.2 (subst (λ n. AreTokens bytes n us) to other.2) s (subst (λ n. IsLexicalStop bytes (end_of n us) stop') to s') in
     record { lists = ap (λ (x : Token). x ∷ ts) head ∙ ap (λ (l : List Token). u ∷ l) tail.lists; stops = tail.stops }
 
 abbrev lexed_of : List Token → Option Place → Place → Lexed

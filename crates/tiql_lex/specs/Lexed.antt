@@ -41,13 +41,13 @@ end_of last (token ∷ tokens) = end_of token.to tokens
 
 -- nothing but white space and comments is left, or this is the place of the first byte that is left, and no token begins
 -- there
-abbrev pub IsStop : List ℕ → ℕ → Option Place → Type 0
-IsStop bytes last None = Skips bytes last (length bytes)
-IsStop bytes last (Some place) =
+abbrev pub IsLexicalStop : List ℕ → ℕ → Option Place → Type 0
+IsLexicalStop bytes last None = Skips bytes last (length bytes)
+IsLexicalStop bytes last (Some place) =
     (from : ℕ) × Skips bytes last from × (from < length bytes) × (place ≡ place_at bytes from) × ((token : Token) → Stands bytes from token → ⊥)
 
 -- the tokens of the bytes, where they stop, and the place behind the last byte
 pub record IsLexed (bytes : List ℕ) (lexed : Lexed) : Type 0 where
   pub tokens : AreTokens bytes (mark_size bytes) lexed.tokens
-  pub stop : IsStop bytes (end_of (mark_size bytes) lexed.tokens) lexed.stop
+  pub stop : IsLexicalStop bytes (end_of (mark_size bytes) lexed.tokens) lexed.stop
   pub end : lexed.end ≡ place_at bytes (length bytes)

@@ -71,7 +71,7 @@ fn is_white(byte: u8) -> bool
     b" \t\r\n".contains(&byte)
 }
 
-/// The place behind the bytes, where they begin at this one. LF alone ends a line, and a column counts bytes.
+/// The place behind the bytes, given the place at which they begin. LF alone ends a line, and a column counts bytes.
 pub fn behind(place: Place, bytes: &[u8]) -> Place
     requires line { place.line + length bytes.now < 2 ^ 32 }
     requires column { place.column + length bytes.now < 2 ^ 32 }

@@ -9,8 +9,7 @@ use base_kit::{List, Memory};
 use std::alloc::Global;
 
 /// The tokens of the bytes, which are fewer than 2^32 - 1, up to the first place where none begins (docs/LANGUAGE.md,
-/// "Tokens"). The longest token wins. A byte order mark at the front is no part of the text. The bytes are gone over from
-/// the front to the back.
+/// "Tokens"). The longest token wins. A byte order mark at the front is no part of the text.
 pub fn tokens(alloc: Global, bytes: &[u8]) -> Result<Lexed, Memory>
     requires { length bytes.now < 2 ^ 32 - 1 }
     ensures { IfOk result (λ lexed. IsLexed bytes.now lexed) }

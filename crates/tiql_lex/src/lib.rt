@@ -1,12 +1,10 @@
-//! Parts the text of a query into its tokens.
+//! Splits the text of a query into its tokens.
 #![tactic(auto)]
 
 mod blank;
 mod lexeme;
 mod lexer;
 mod scan;
-#[cfg(test)]
-mod tests;
 mod token;
 mod value;
 

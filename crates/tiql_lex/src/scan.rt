@@ -1,4 +1,4 @@
-//! Goes over a text, token by token.
+//! Positions in a text, and the token that begins at one.
 ghost use Rattle.std.specs.Prelude.{◌≡◌, ◌^◌, ◌<◌, ◌≤◌, ◌-◌, ◌↔◌, true, false, length, IfOk, IfSome, IfNone, IsTrue};
 ghost use Rattle.std.specs.Str.{IsUtf8};
 ghost use Rattle.tiql_lex.specs.declared.token.Token.{Token};

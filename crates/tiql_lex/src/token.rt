@@ -1,6 +1,7 @@
 //! What a token is.
 
-use base_kit::{List, Place};
+use base_kit::{Duplicate, List, Memory, Place, copy_list};
+use std::alloc::Global;
 
 /// The kinds of tokens (docs/LANGUAGE.md, "Tokens").
 #[derive(Clone, Copy, Debug, PartialEq, Eq)]
@@ -40,4 +41,20 @@ pub struct Lexed {
     pub stop: Option<Place>,
     /// The place behind the last byte.
     pub end: Place,
+}
+
+impl Duplicate for Token {
+    fn copy(&self, _alloc: Global) -> Result<Token, Memory> {
+        Ok(*self)
+    }
+}
+
+impl Duplicate for Lexed {
+    fn copy(&self, alloc: Global) -> Result<Lexed, Memory> {
+        Ok(Lexed {
+            tokens: copy_list(alloc, self.tokens.as_slice())?,
+            stop: self.stop,
+            end: self.end,
+        })
+    }
 }

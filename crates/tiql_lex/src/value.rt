@@ -1,4 +1,4 @@
-//! What numbers and texts in quotes say.
+//! The values of numbers and of texts in quotes.
 ghost use Rattle.std.specs.Prelude.{◌≡◌, ◌^◌, ◌&&◌, pos, nat_le, false, List, ℕ, [], IfOk, IfSome, IfNone, if◌then◌else◌};
 ghost use Rattle.std.specs.Option.{option_map};
 ghost use Rattle.std.specs.Char.{is_ascii_digit};
@@ -10,10 +10,10 @@ ghost use Rattle.tiql_lex.specs.Scan as scan;
 use base_kit::Memory;
 use std::alloc::Global;
 
-// The most that a number is (docs/LANGUAGE.md, "Numbers").
+// The greatest number (docs/LANGUAGE.md, "Numbers").
 const MOST_NUMBER: u64 = 1_000_000_000_000_000;
 
-/// The number that the bytes write, unless they are none: one or more digits, and a value of at most 10^15.
+/// Parses a number: one or more digits, with a value of at most 10^15. `None` for anything else.
 pub fn number_value(text: &[u8]) -> Option<i64>
     ensures { result ≡ (if is_number text.now then Some (pos (digits_value 10 text.now)) else None) }
 {
@@ -24,7 +24,7 @@ pub fn number_value(text: &[u8]) -> Option<i64>
     Some(value as i64)
 }
 
-// The value of digits, unless there is something else or they pass the most.
+// The value of digits; `None` where a byte is not a digit, or the value is above the greatest number.
 fn value_of(text: &[u8]) -> Option<u64>
     ensures { result ≡ (if list_all is_ascii_digit text.now && nat_le (digits_value 10 text.now) (10 ^ 15)
         then Some (digits_value 10 text.now) else None) }
@@ -42,7 +42,8 @@ fn value_of(text: &[u8]) -> Option<u64>
     Some(value)
 }
 
-/// What a text in quotes says, unless the bytes are none: a quote, the value with two quotes for one, and a quote.
+/// The value of a text in quotes: a quote, the value with each of its quotes written twice, and a quote. `None` for anything
+/// else.
 pub fn text_value(alloc: Global, text: &[u8]) -> Result<Option<Vec<u8>>, Memory>
     ensures some { IfOk result (λ found. IfSome found (λ value. text.now ≡ quoted value.items)) }
     ensures none { IfOk result (λ found. IfNone found ((value : List ℕ) → text.now ≡ quoted value → ⊥)) }
@@ -56,7 +57,7 @@ pub fn text_value(alloc: Global, text: &[u8]) -> Result<Option<Vec<u8>>, Memory>
     value_behind(alloc, rest)
 }
 
-// What a text says, behind the quote that opens it.
+// The value of a text, behind the quote that opens it.
 fn value_behind(alloc: Global, bytes: &[u8]) -> Result<Option<Vec<u8>>, Memory>
     ensures { IfOk result (λ found. option_map (λ value. value.items) found ≡ scan.value_from [] false bytes.now) }
 {

@@ -159,8 +159,5 @@ ok_rest a b v u eq = ap (rest_in v) eq
 pub err_left : {B : Type 0} (m n : ℕ) → ◌≡◌ {A = Result B ℕ} (Err m) (Err n) → m ≡ n
 err_left m n eq = ap (left_in m) eq
 
-pub ok_err : {B : Type 0} (b : B) (n : ℕ) → ◌≡◌ {A = Result B ℕ} (Ok b) (Err n) → ⊥
-ok_err b n eq = cc
-
 pub err_ok : {B : Type 0} (n : ℕ) (b : B) → ◌≡◌ {A = Result B ℕ} (Err n) (Ok b) → ⊥
 err_ok n b eq = cc

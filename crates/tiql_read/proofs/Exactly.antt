@@ -6,7 +6,7 @@ use Rattle.std.specs.declared.option.Option.TheVariants.{None, Some}
 use Rattle.tiql_tree.specs.Words.{Word}
 use Rattle.tiql_read.specs.declared.word.Seen.{Seen}
 use Rattle.tiql_read.specs.Steps.{Words, Reading, word_of, ◌>>=◌}
-use Rattle.tiql_read.proofs.Exact.{ws, ps, fixed, Fine, none, ws-append, length-ws, fixed-append, fine_front, ok_rest, err_left, ok_err, err_ok}
+use Rattle.tiql_read.proofs.Exact.{ws, ps, fixed, Fine, none, ws-append, length-ws, fixed-append, fine_front, ok_rest, err_left, err_ok}
 use Rattle.std.proofs.Common.{nat_eq}
 use Rattle.std.proofs.lemmas.Bool.Decides.{Decides-eqb, nat_tests}
 use Rattle.std.proofs.lemmas.Str.{is_utf8-from_IsUtf8}
@@ -35,6 +35,7 @@ use Rattle.tiql_read.specs.Expressions.{value_of_text, short_text}
 use Rattle.tiql_read.specs.Queries.{declares, decl_at, goal_at, ended, query_at}
 use Rattle.tiql_read.proofs.Exact.{text_or, fixed_by}
 use Rattle.tiql_read.proofs.WholeQueries.{whole_at, query_exact}
+use Rattle.base_kit.proofs.Results.{Ok-Err}
 
 -- of these words so many are left from the first wrong one on: those before it begin a query, and with it they begin none
 pub record StopsAt (words : List Word) (left : ℕ) : Type 0 where
@@ -179,7 +180,7 @@ by_finish other left end = err_left {B = Tree} other left end
 
 finish_done : (t : Tree) (left : ℕ) → finish (Ok (t, [])) ≡ Err left → ⊥
 unfolding finish
-finish_done t left end = ok_err t left end
+finish_done t left end = Ok-Err t left end
 
 finish_more : (t : Tree) (s : Seen) (rest : Words) (left : ℕ) → finish (Ok (t, s ∷ rest)) ≡ Err left → suc (length rest) ≡ left
 unfolding finish

@@ -38,10 +38,6 @@ name_exact = one spot_takes
 abbrev point_words : Option (List ℕ × Unit {0}) → List Word
 point_words d = optional (λ (d : List ℕ × Unit {0}). sign (codes ".") ∷ named d.0 ∷ []) d
 
-abbrev point_tree : Places → Option (List ℕ × Unit {0}) → Option Spot
-point_tree p None = None
-point_tree p (Some d) = Some (spot 0 (drop 1 p) d.0)
-
 point_exact : {X : Type 0} → Exact {X = X} {A = Option Spot} {D = Option (List ℕ × Unit {0})} (λ e v. point_at v) point_words (maybe_ok (λ d. Unit {0} × Unit {0})) (maybe_tree (λ e. None) (λ e p d. Some (spot 0 (drop 1 p) d.0))) (is_sign (codes "."))
 unfolding point_at
 point_exact {X} =

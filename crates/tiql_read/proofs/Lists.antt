@@ -20,21 +20,18 @@ use Rattle.tiql_read.proofs.Branches.Either.{one_way, other_way}
 use Rattle.tiql_read.proofs.Branches.{Either, either_words, either_ok, either_tree, branch, recast, wider}
 use Rattle.tiql_read.proofs.Many.{under, many, many_ok, many_tree}
 use Rattle.tiql_read.proofs.WordTests.{sign_needs}
+use Rattle.std.proofs.lemmas.Bool.{or_parts}
 
 abbrev pub or_else : (Word → Bool) → (Word → Bool) → Word → Bool
 or_else p q word = p word || q word
 
-or_no : (a b : Bool) → (a || b) ≡ false → (a ≡ false) × (b ≡ false)
-or_no false b h = (refl, h)
-or_no true b h = absurd cc
-
 pub or_first : (p q : Word → Bool) (us : List Word) → starts (or_else p q) us ≡ false → starts p us ≡ false
 or_first p q [] h = refl
-or_first p q (u ∷ us) h = (or_no (p u) (q u) h).0
+or_first p q (u ∷ us) h = (or_parts (p u) (q u) h).0
 
 pub or_second : (p q : Word → Bool) (us : List Word) → starts (or_else p q) us ≡ false → starts q us ≡ false
 or_second p q [] h = refl
-or_second p q (u ∷ us) h = (or_no (p u) (q u) h).1
+or_second p q (u ∷ us) h = (or_parts (p u) (q u) h).1
 
 pub no_end : (us : List Word) → starts none us ≡ false
 no_end [] = refl
@@ -148,10 +145,6 @@ pub listed : {X A D : Type 0} {part : Words → Reading A} {w : D → List Word}
 unfolding list_at next_at
 listed {X} {A} {D} {part} {w} {ok} {t} {ext1} one apart =
     several one comma (is_sign (codes ",")) (λ e. next_at (is_sign (codes ",")) part) (word (sign_needs (codes ",")) one) (λ d us good. (sign_needs (codes ",")).hit) (λ d us good. apart (w d ++ us))
-
-pub or_both : (p q : Word → Bool) (us : List Word) → starts p us ≡ false → starts q us ≡ false → starts (or_else p q) us ≡ false
-or_both p q [] one other = refl
-or_both p q (u ∷ us) one other = rw (one, other) refl
 
 -- a value made of what was read
 pub mapped : {X A B D : Type 0} {r : X → Words → Reading A} {w : D → List Word} {ok : D → Type 0} {t : X → Places → D → A} {ext : Word → Bool} → Exact r w ok t ext → (f : X × A → B) →

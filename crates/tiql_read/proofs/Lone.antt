@@ -5,7 +5,7 @@ use Rattle.tiql_tree.specs.Words.{Word}
 use Rattle.tiql_tree.specs.Trees.{Places, place}
 use Rattle.tiql_read.specs.declared.word.Seen.{Seen}
 use Rattle.tiql_read.specs.Steps.{Words, Reading, ◌>>=◌, need, begins}
-use Rattle.tiql_read.proofs.Exact.{ws, ps, Fine, starts, none, Repaired, Stopped, Made, Exact, ws-append, fine_front, halves, seam, ok_value, ok_rest, err_left, ok_err, err_ok}
+use Rattle.tiql_read.proofs.Exact.{ws, ps, Fine, starts, none, Repaired, Stopped, Made, Exact, ws-append, fine_front, halves, seam, ok_value, ok_rest, err_left, err_ok}
 use Rattle.std.proofs.Common.{nat_eq}
 use Rattle.std.proofs.Common.{bytes_eq}
 use Rattle.std.proofs.lemmas.Bool.{false≢true}
@@ -37,6 +37,7 @@ use Rattle.tiql_read.proofs.Leaves.{ref_name_exact}
 use Rattle.tiql_read.proofs.Sums.{expr_ext}
 use Rattle.tiql_read.proofs.Factors.{expression_exact}
 use Rattle.tiql_read.proofs.Items.{alias_exact, plain_words, plain_tree, with_alias_at, with_alias_exact}
+use Rattle.base_kit.proofs.Results.{Ok-Err}
 
 abbrev lone : RefText → ExprText
 lone ref = last_term (last_factor (reference ref))
@@ -265,7 +266,7 @@ lone_left v m t left eq = found (ref_name_at v) eq
     found (Ok y) eq = by_size (nat_eq (length y.1) (length m)) eq
       where
         by_size : (b : Bool) → item_reading t (cond b (Ok y) (Err (length m))) ≡ Err left → left ≡ length m
-        by_size true eq = absurd (ok_err (item_of (place_of t) (values.Plain t) y.0, y.1) left eq)
+        by_size true eq = absurd (Ok-Err (item_of (place_of t) (values.Plain t) y.0, y.1) left eq)
         by_size false eq = sym (err_left {B = TreeItem × Words} (length m) left eq)
 
 -- where an item stops, an item with AS stops
@@ -358,7 +359,7 @@ plain_same e front s more others eq = go (expression_at 64 (front ++ s ∷ more)
           where
             by_alias : (q : Reading Spot) → alias_at m ≡ q → alias_at m ≡ Err (suc (length more))
             by_alias (Err left) of = of ∙ ap (λ k. Err k) (err_left {B = TreeItem × Words} left (suc (length more)) (sym (reading_err t (alias_at m) left of) ∙ sym (alias_ok (front ++ s ∷ more) m t is) ∙ stopped))
-            by_alias (Ok y) of = absurd (ok_err (item_of (place_of t) (values.Plain t) y.0, y.1) (suc (length more)) (sym (reading_ok t (alias_at m) y.0 y.1 of) ∙ sym (alias_ok (front ++ s ∷ more) m t is) ∙ stopped))
+            by_alias (Ok y) of = absurd (Ok-Err (item_of (place_of t) (values.Plain t) y.0, y.1) (suc (length more)) (sym (reading_ok t (alias_at m) y.0 y.1 of) ∙ sym (alias_ok (front ++ s ∷ more) m t is) ∙ stopped))
     named m t is false test =
         let line = sym (plain_ok (front ++ s ∷ more) m t false is test) ∙ eq in
         let size = lone_left (front ++ s ∷ more) m t (suc (length more)) line in
@@ -381,7 +382,7 @@ plain_same e front s more others eq = go (expression_at 64 (front ++ s ∷ more)
                 let k = seam front (s ∷ others) a.front y.1 a.split (sym same) in
                 let there = last_name.steady tt front s others more y.0 (of ∙ ap (λ (l : Words). ok l) (sym k.backs)) in
                 let still : ends_at m (ref_name_at (front ++ s ∷ more)) ≡ Ok (y.0, s ∷ more) = ap (ends_at m) there ∙ ends_ok m y.0 (s ∷ more) (ap length (sym back)) in
-                absurd (ok_err (item_of (place_of t) (values.Plain t) y.0, s ∷ more) (suc (length more)) (sym (reading_ok t (ends_at m (ref_name_at (front ++ s ∷ more))) y.0 (s ∷ more) still) ∙ line))
+                absurd (Ok-Err (item_of (place_of t) (values.Plain t) y.0, s ∷ more) (suc (length more)) (sym (reading_ok t (ends_at m (ref_name_at (front ++ s ∷ more))) y.0 (s ∷ more) still) ∙ line))
               where
                 ok : Words → Reading Spot
                 ok l = Ok (y.0, l)

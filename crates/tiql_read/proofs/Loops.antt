@@ -9,7 +9,8 @@ use Rattle.tiql_tree.specs.Words.{Word}
 use Rattle.tiql_read.specs.declared.word.Stop.{Stop}
 use Rattle.tiql_read.specs.declared.word.Stop.TheVariants.{Wrong}
 use Rattle.tiql_read.specs.Steps.{Words, Reading, behind, begins, need, told, next_at, more_at, many_at, word_of, ◌>>=◌}
-use Rattle.tiql_read.specs.Outcomes.{with_front, Gives}
+use Rattle.tiql_read.specs.Outcomes.{with_front, ReadsAs}
+use Rattle.base_kit.proofs.Results.{same_Ok}
 
 -- the part, and then these
 abbrev ahead : {A : Type 0} → A → List A × Words → Reading (List A)
@@ -21,9 +22,6 @@ ok_list l words = Ok (l, words)
 -- the parts so far, and those that are read in so many steps
 unfoldable pub left : {A : Type 0} → (Word → Bool) → (Words → Reading A) → List A → ℕ → Words → Reading (List A)
 left test part front room words = with_front front (more_at test part room words)
-
-same_ok : {A : Type 0} (x y : List A × Words) → ◌≡◌ {A = Reading (List A)} (Ok x) (Ok y) → x ≡ y
-same_ok x y e = cc
 
 ended : {A : Type 0} (front : List A) (words : Words) → ◌≡◌ {A = Reading (List A)} (Ok (front ++ [], words)) (Ok (front, words))
 ended {A} front words = ap (λ (l : List A). ok_list l words) (append-nil front)
@@ -71,7 +69,7 @@ module _ {A : Type 0} (test : Word → Bool) (part : Words → Reading A) where
   unfolding left more_at
   left_wrong front n i words left_over r lt first is h = let m = one_less n i lt in sym (rw (m.1, first, is) at h)
 
-  pub left_gives : (front : List A) (n i : ℕ) (words : Words) (stop : Stop) (r : Reading (List A)) → i < n → begins test words ≡ true → ((k : ℕ) → stop ≡ Wrong k → part words ≡ Err k) → left test part front (n - i) words ≡ r → Gives (Err stop) r
+  pub left_gives : (front : List A) (n i : ℕ) (words : Words) (stop : Stop) (r : Reading (List A)) → i < n → begins test words ≡ true → ((k : ℕ) → stop ≡ Wrong k → part words ≡ Err k) → left test part front (n - i) words ≡ r → ReadsAs (Err stop) r
   left_gives front n i words stop r lt first is h = λ k e. left_wrong front n i words k r lt first (is k e) h
 
   -- the first part of all that are read, where one begins
@@ -81,7 +79,7 @@ module _ {A : Type 0} (test : Word → Bool) (part : Words → Reading A) where
   many_some (seen ∷ words) more rest first is = by_part (part (seen ∷ words)) (rw first at is)
     where
       by_more : (x : A) (m : Reading (List A)) → (m >>= ahead x) ≡ Ok (more, rest) → 0 < length more
-      by_more x (Ok y) e = let same : 1 + length y.0 ≡ length more = omega (arith, ap (λ (p : List A × Words). length p.0) (same_ok (x ∷ y.0, y.1) (more, rest) e)) in omega (arith, same)
+      by_more x (Ok y) e = let same : 1 + length y.0 ≡ length more = omega (arith, ap (λ (p : List A × Words). length p.0) (same_Ok (x ∷ y.0, y.1) (more, rest) e)) in omega (arith, same)
       by_more x (Err n) e = cc
 
       by_part : (p : Reading A) → (p >>= λ x. more_at test part (length words) x.1 >>= ahead x.0) ≡ Ok (more, rest) → 0 < length more
@@ -118,7 +116,7 @@ module _ {A : Type 0} (test : Word → Bool) (part : Words → Reading A) where
       let next = next_on test part words behind_it (sym stands) in
       left_on test (next_at test part) front more n i words x rest r lt next.0 (next.1 ∙ is) grown h
 
-  pub next_left_gives : (front : List A) (n i : ℕ) (words behind_it : Words) (stop : Stop) (r : Reading (List A)) → i < n → Some behind_it ≡ behind test words → ((k : ℕ) → stop ≡ Wrong k → part behind_it ≡ Err k) → left test (next_at test part) front (n - i) words ≡ r → Gives (Err stop) r
+  pub next_left_gives : (front : List A) (n i : ℕ) (words behind_it : Words) (stop : Stop) (r : Reading (List A)) → i < n → Some behind_it ≡ behind test words → ((k : ℕ) → stop ≡ Wrong k → part behind_it ≡ Err k) → left test (next_at test part) front (n - i) words ≡ r → ReadsAs (Err stop) r
   next_left_gives front n i words behind_it stop r lt stands is h =
       let next = next_on test part words behind_it (sym stands) in
       left_gives test (next_at test part) front n i words stop r lt next.0 (λ k e. next.1 ∙ is k e) h

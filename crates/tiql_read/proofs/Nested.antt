@@ -5,10 +5,11 @@ use Rattle.tiql_tree.specs.Words.{Word}
 use Rattle.tiql_read.specs.declared.word.Stop.{Stop}
 use Rattle.tiql_read.specs.declared.word.Stop.TheVariants.{Wrong}
 use Rattle.tiql_read.specs.Steps.{Words, Reading, begins, many_at, ◌>>=◌}
-use Rattle.tiql_read.specs.Outcomes.{with_front, Gives}
+use Rattle.tiql_read.specs.Outcomes.{with_front, ReadsAs}
 use Rattle.tiql_read.specs.Expressions.{opens, simple_at, opened_by, factor_at, expression_at}
 use Rattle.tiql_read.specs.Conditions.{opens_cond, compare_by, enclosed_by, unit_at}
 use Rattle.tiql_read.proofs.Loops.{many_some, many_none}
+use Rattle.base_kit.proofs.Results.{same_Ok}
 
 -- a part, and parts of another kind that follow
 abbrev ok_of : {A : Type 0} → A → Words → Reading A
@@ -16,9 +17,6 @@ ok_of x words = Ok (x, words)
 
 abbrev pub joined : {A B : Type 0} → (A → List B → A) → A → List B × Words → Reading A
 joined whole first more = Ok (whole first more.0, more.1)
-
-same_ok : {B : Type 0} (x y : List B × Words) → ◌≡◌ {A = Reading (List B)} (Ok x) (Ok y) → x ≡ y
-same_ok x y e = cc
 
 module _ {A B : Type 0} (part : Words → Reading A) (test : Word → Bool) (next : Words → Reading B) (one : A → B) (whole : A → List B → A) where
   abbrev pub followed : Words → Reading A
@@ -30,7 +28,7 @@ module _ {A B : Type 0} (part : Words → Reading A) (test : Word → Bool) (nex
       rw (is, many_none test next rest none) (ap (λ (x : A). ok_of x rest) alone)
 
   -- what follows is wrong
-  pub followed_wrong : (words : Words) (first : A) (rest : Words) (front : List B) (stop : Stop) → part words ≡ Ok (first, rest) → ((k : ℕ) → stop ≡ Wrong k → with_front front (many_at test next rest) ≡ Err k) → Gives (Err stop) (followed words)
+  pub followed_wrong : (words : Words) (first : A) (rest : Words) (front : List B) (stop : Stop) → part words ≡ Ok (first, rest) → ((k : ℕ) → stop ≡ Wrong k → with_front front (many_at test next rest) ≡ Err k) → ReadsAs (Err stop) (followed words)
   followed_wrong words first rest front stop is wrong = λ k e. rw is (by_more (many_at test next rest) k (wrong k e))
     where
       by_more : (m : Reading (List B)) (k : ℕ) → with_front front m ≡ Err k → (m >>= joined whole first) ≡ Err k
@@ -45,7 +43,7 @@ module _ {A B : Type 0} (part : Words → Reading A) (test : Word → Bool) (nex
       by_list : (more : List B) (w : Words) → many_at test next rest ≡ Ok (more, w) → ◌≡◌ {A = Reading (List B)} (Ok (one first ∷ more, w)) (Ok (parts, last)) → ◌≡◌ {A = Reading A} (Ok (whole first more, w)) (Ok (made parts, last))
       by_list [] w e all = absurd (omega (arith, many_some test next rest [] w some e))
       by_list (b ∷ bs) w e all =
-          ap (λ (l : A). ok_of l w) (law b bs) ∙ ap (λ (p : List B × Words). ok_of (made p.0) p.1) (same_ok (one first ∷ b ∷ bs, w) (parts, last) all)
+          ap (λ (l : A). ok_of l w) (law b bs) ∙ ap (λ (p : List B × Words). ok_of (made p.0) p.1) (same_Ok (one first ∷ b ∷ bs, w) (parts, last) all)
 
       by_more : (m : Reading (List B)) → many_at test next rest ≡ m → with_front (one first ∷ []) m ≡ Ok (parts, last) → (m >>= joined whole first) ≡ Ok (made parts, last)
       by_more (Ok more) e all = by_list more.0 more.1 e all

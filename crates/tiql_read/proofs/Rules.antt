@@ -8,7 +8,8 @@ use Rattle.tiql_tree.specs.Words.{Word}
 use Rattle.tiql_tree.specs.Trees.{Places, place}
 use Rattle.tiql_read.specs.declared.word.Seen.{Seen}
 use Rattle.tiql_read.specs.Steps.{Words, Reading, word_of, ◌>>=◌, need, take_as}
-use Rattle.tiql_read.proofs.Exact.{ws, ps, fixed, Fine, starts, none, Stopped, Made, Exact, seam, ok_value, ok_rest, err_left, ok_err, err_ok}
+use Rattle.tiql_read.proofs.Exact.{ws, ps, fixed, Fine, starts, none, Stopped, Made, Exact, seam, ok_value, ok_rest, err_left, err_ok}
+use Rattle.base_kit.proofs.Results.{Ok-Err}
 
 -- nothing is read
 pub done : {X A : Type 0} (f : X → A) → Exact {X = X} {A = A} {D = Unit {0}} (λ e v. Ok (f e, v)) (λ d. []) (λ d. Unit {0}) (λ e p d. f e) none
@@ -16,10 +17,10 @@ done {X} {A} f = record {
   any = tt;
   any_ok = tt;
   some = λ e v u x eq. record { front = []; split = ok_rest (f e) x v u eq; derived = tt; good = tt; words = refl; value = sym (ok_value (f e) x v u eq) };
-  stop = λ e v left eq. absurd (ok_err (f e, v) left eq);
+  stop = λ e v left eq. absurd (Ok-Err (f e, v) left eq);
   whole = whole;
   repaired = λ d ok. record { other = tt; good = tt; words = refl };
-  same = λ e front s more others eq. absurd (ok_err (f e, front ++ s ∷ more) (suc (length more)) eq);
+  same = λ e front s more others eq. absurd (Ok-Err (f e, front ++ s ∷ more) (suc (length more)) eq);
   steady = steady;
 }
   where
@@ -169,7 +170,7 @@ one {X} {A} {D} {value} {key} {t} takes = record {
     stop (s ∷ v) left eq = by_value (value s) refl
       where
         by_value : (o : Option A) → value s ≡ o → Stopped (λ d. key d ∷ []) (λ d. Unit {0}) (s ∷ v) left
-        by_value (Some a) hit = absurd (ok_err (a, v) left (sym (take_hit value s v a hit) ∙ eq))
+        by_value (Some a) hit = absurd (Ok-Err (a, v) left (sym (take_hit value s v a hit) ∙ eq))
         by_value None miss = record { front = []; rest = s ∷ v; split = refl; size = err_left (suc (length v)) left (sym (take_miss value s v miss) ∙ eq); more = key takes.any ∷ []; derived = takes.any; good = tt; words = refl }
 
     whole : (d : D) (c u : Words) → ws c ≡ key d ∷ [] → Fine c → take_as value (c ++ u) ≡ Ok (t (place 0 (ps (c ++ u))) d, u)
@@ -181,12 +182,12 @@ one {X} {A} {D} {value} {key} {t} takes = record {
     same [] s more others eq = by_value (value s) refl
       where
         by_value : (o : Option A) → value s ≡ o → take_as value (s ∷ others) ≡ Err (suc (length others))
-        by_value (Some a) hit = absurd (ok_err (a, more) (suc (length more)) (sym (take_hit value s more a hit) ∙ eq))
+        by_value (Some a) hit = absurd (Ok-Err (a, more) (suc (length more)) (sym (take_hit value s more a hit) ∙ eq))
         by_value None miss = take_miss value s others miss
     same (f ∷ front) s more others eq = by_value (value f) refl
       where
         by_value : (o : Option A) → value f ≡ o → take_as value (f ∷ front ++ s ∷ others) ≡ Err (suc (length others))
-        by_value (Some a) hit = absurd (ok_err (a, front ++ s ∷ more) (suc (length more)) (sym (take_hit value f (front ++ s ∷ more) a hit) ∙ eq))
+        by_value (Some a) hit = absurd (Ok-Err (a, front ++ s ∷ more) (suc (length more)) (sym (take_hit value f (front ++ s ∷ more) a hit) ∙ eq))
         by_value None miss =
             let l = err_left (suc (length (front ++ s ∷ more))) (suc (length more)) (sym (take_miss value f (front ++ s ∷ more) miss) ∙ eq) in
             absurd (omega (arith, l, length-append front (s ∷ more)))

@@ -1,21 +1,21 @@
 -- a text is of one tree at most, and stops at one place
-use Rattle.std.proofs.Common.{◌≡◌, ℕ, ◌+◌, ◌<◌, ◌≤◌, zero, suc, List, [], ◌∷◌, ◌++◌, length, map, take, drop, refl, sym, ◌∙◌, ap, subst, append_assoc, arith, Result, Ok}
+use Rattle.std.proofs.Common.{◌≡◌, ℕ, ◌+◌, ◌<◌, ◌≤◌, zero, suc, List, [], ◌∷◌, ◌++◌, map, take, drop, refl, sym, ◌∙◌, ap, subst, append_assoc, arith}
 use Rattle.std.specs.Prelude.{◌⊎◌}
 use Rattle.std.proofs.Common.{inl, inr}
 use Rattle.std.proofs.lemmas.Bool.{cases_lt}
 use Rattle.base_kit.specs.declared.place.Place.{Place}
 use Rattle.tiql_lex.specs.declared.token.Token.{Token}
 use Rattle.tiql_lex.specs.declared.token.Lexed.{Lexed}
-use Rattle.tiql_lex.specs.Lexed.{text_of, IsLexed}
+use Rattle.tiql_lex.specs.Lexed.{text_of}
 use Rattle.tiql_lex.proofs.Unique.{one_lexing}
 use Rattle.tiql_tree.specs.declared.tree.Tree.{Tree}
 use Rattle.tiql_tree.specs.Words.{Word}
 use Rattle.tiql_tree.specs.Trees.{place}
-use Rattle.tiql_tree.specs.Spelled.{words_of, places_of, Spelled, Begins, IsFirstWrong, IsPlaceOfStop, IsStop, end_place}
+use Rattle.tiql_tree.specs.Spelled.{words_of, places_of, Spelled, Begins, IsFirstWrong, IsPlaceOfStop, IsStop}
 use Rattle.tiql_read.specs.declared.word.Seen.{Seen}
-use Rattle.tiql_read.specs.Steps.{Words, word_of}
-use Rattle.tiql_read.specs.Queries.{query_at}
+use Rattle.tiql_read.specs.Steps.{word_of}
 use Rattle.tiql_read.proofs.Told.{Known, again}
+use Rattle.base_kit.proofs.Results.{same_Ok}
 
 abbrev seen_of : List ℕ → Token → Seen
 seen_of bytes token = record { kind = token.kind; text = text_of bytes token; place = token.place }
@@ -28,14 +28,11 @@ seen_places : (bytes : List ℕ) (tokens : List Token) → map (λ (word : Seen)
 seen_places bytes [] = refl
 seen_places bytes (t ∷ ts) = ap (λ (l : List Place). t.place ∷ l) (seen_places bytes ts)
 
-same_ok : (one other : Tree) → ◌≡◌ {A = Result Tree ℕ} (Ok one) (Ok other) → one ≡ other
-same_ok one other e = cc
-
 -- a text is of one tree at most
 pub one_tree : (bytes : List ℕ) (one other : Tree) → Spelled bytes one → Spelled bytes other → one ≡ other
 one_tree bytes one other a b =
     let known : Known bytes a.lexed (map (seen_of bytes) a.lexed.tokens) = record { lexes = a.tokens; same_words = seen_words bytes a.lexed.tokens; same_places = seen_places bytes a.lexed.tokens } in
-    same_ok one other (sym (again bytes a.lexed (map (seen_of bytes) a.lexed.tokens) known one a).0 ∙ (again bytes a.lexed (map (seen_of bytes) a.lexed.tokens) known other b).0)
+    same_Ok one other (sym (again bytes a.lexed (map (seen_of bytes) a.lexed.tokens) known one a).0 ∙ (again bytes a.lexed (map (seen_of bytes) a.lexed.tokens) known other b).0)
 
 take_drop : (k : ℕ) (ws : List Word) → take k ws ++ drop k ws ≡ ws
 take_drop zero ws = refl

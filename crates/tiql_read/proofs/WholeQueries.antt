@@ -291,12 +291,6 @@ of_decl (hypo_decl d) = other_way (one_way d)
 of_decl (view_decl d) = other_way (other_way (one_way d))
 of_decl (require_decl d) = other_way (other_way (other_way d))
 
-require_key : (d : RequireText) (us : List Word) → starts (is_key (codes "REQUIRE")) (require_words d ++ us) ≡ true
-unfolding require_words is_key
-require_key (all_have name cond) us = refl
-require_key (some_have name cond) us = refl
-require_key (none_is name) us = refl
-
 require_apart : (test : Word → Bool) → test (key (codes "REQUIRE")) ≡ false → (d : RequireText) (us : List Word) → starts test (require_words d ++ us) ≡ false
 unfolding require_words
 require_apart test apart (all_have name cond) us = apart
@@ -440,9 +434,6 @@ goal_chain = branch (find_exact {X = Unit {0}}) (sum_goal_exact {X = Unit {0}}) 
     not_find : (d : SumParts) (us : List Word) → sum_parts_ok d → starts none us ≡ false → starts (is_key (codes "FIND")) (sum_parts_words d ++ us) ≡ false
     not_find (true, d) us good end = refl
     not_find (false, d) us good end = refl
-
-goal_in_turn : (a s : Word) (part more : List Word) → a ∷ s ∷ part ++ more ≡ a ∷ s ∷ (part ++ more)
-goal_in_turn a s part more = refl
 
 goal_made : (d : GoalParts) → goal_words (to_goal d) ≡ goal_parts_words d
 unfolding to_goal goal_words

@@ -13,7 +13,8 @@ use Rattle.std.specs.Prelude.{nat_le}
 use Rattle.std.specs.Str.{is_utf8}
 use Rattle.std.proofs.lemmas.Str.{is_utf8-from_IsUtf8}
 use Rattle.tiql_lex.specs.Scan.{value_from}
-use Rattle.std.proofs.lemmas.Bool.{false≢true}
+use Rattle.std.proofs.lemmas.Bool.{and_parts}
+use Rattle.std.proofs.lemmas.Option.{same_Some, none-some}
 use Rattle.std.proofs.lemmas.Slice.Eq.{bytes_eq-Decides}
 use Rattle.std.specs.Prelude.{pos}
 use Rattle.std.specs.Str.Parse.{digits_value}
@@ -62,22 +63,14 @@ same_kind Sign Keyword h = absurd cc
 same_kind Sign Number h = absurd cc
 same_kind Sign Text h = absurd cc
 
-and_first : (a b : Bool) → (a && b) ≡ true → a ≡ true
-and_first true b h = refl
-and_first false b h = absurd (false≢true h)
-
-and_second : (a b : Bool) → (a && b) ≡ true → b ≡ true
-and_second true b h = h
-and_second false b h = absurd (false≢true h)
-
 abbrev word_at : TokenKind → List ℕ → Word
 word_at kind text = record { kind = kind; text = text }
 
 -- the word is of this kind and has these bytes
 one_word : (kind : TokenKind) (text : List ℕ) (word : Word) → (is_kind kind word.kind && bytes_eq word.text text) ≡ true → word ≡ word_at kind text
 one_word kind text word h =
-    let k = sym (same_kind kind word.kind (and_first (is_kind kind word.kind) (bytes_eq word.text text) h)) in
-    let b = (bytes_eq-Decides word.text text).0 (and_second (is_kind kind word.kind) (bytes_eq word.text text) h) in
+    let k = sym (same_kind kind word.kind (and_parts (is_kind kind word.kind) (bytes_eq word.text text) h).0) in
+    let b = (bytes_eq-Decides word.text text).0 (and_parts (is_kind kind word.kind) (bytes_eq word.text text) h).1 in
     ap (λ (x : TokenKind). word_at x word.text) k ∙ ap (λ (x : List ℕ). word_at kind x) b
 
 itself : (text : List ℕ) → bytes_eq text text ≡ true
@@ -91,12 +84,6 @@ pub sign_needs : (text : List ℕ) → Needs (is_sign text) (sign text)
 unfolding is_sign
 sign_needs text = record { hit = itself text; only = one_word Sign text; fine = refl }
 
-same_some : {A : Type 0} (a b : A) → ◌≡◌ {A = Option A} (Some a) (Some b) → a ≡ b
-same_some a b e = cc
-
-some_none : {A : Type 0} (a : A) → ◌≡◌ {A = Option A} None (Some a) → ⊥
-some_none a e = cc
-
 -- a word that one test finds
 pub last_takes : {A : Type 0} (test : Word → Bool) (k : Word) (f : Place → A) → Needs test k → Takes {A = A} {D = Unit {0}} (λ s. cond (test (word_of s)) (Some (f s.place)) None) (λ d. k) (λ p d. f p)
 last_takes {A} test k f needs = record { any = tt; some = some; again = again; repaired = λ d. (tt, sym needs.fine) }
@@ -105,8 +92,8 @@ last_takes {A} test k f needs = record { any = tt; some = some; again = again; r
     some s a eq = by_test (test (word_of s)) refl eq
       where
         by_test : (b : Bool) → test (word_of s) ≡ b → cond b (Some (f s.place)) None ≡ Some a → (d : Unit {0}) × (word_of s ≡ k) × (a ≡ f s.place)
-        by_test true hit eq = (tt, needs.only (word_of s) hit, sym (same_some (f s.place) a eq))
-        by_test false miss eq = absurd (some_none a eq)
+        by_test true hit eq = (tt, needs.only (word_of s) hit, sym (same_Some (f s.place) a eq))
+        by_test false miss eq = absurd (none-some a eq)
 
     again : (s : Seen) (d : Unit {0}) → word_of s ≡ k → fixed k ≡ k → cond (test (word_of s)) (Some (f s.place)) None ≡ Some (f s.place)
     again s d is fine = rw (ap test is ∙ needs.hit) refl
@@ -128,7 +115,7 @@ or_takes {A} {D} test k f needs {value} {key2} {t2} takes apart = record { any =
     some s a eq = by_test (test (word_of s)) refl eq
       where
         by_test : (b : Bool) → test (word_of s) ≡ b → cond b (Some (f s.place)) (value s) ≡ Some a → (d : Either (Unit {0}) D) × (word_of s ≡ either_key k key2 d) × (a ≡ either_value f t2 s.place d)
-        by_test true hit eq = (one_way tt, needs.only (word_of s) hit, sym (same_some (f s.place) a eq))
+        by_test true hit eq = (one_way tt, needs.only (word_of s) hit, sym (same_Some (f s.place) a eq))
         by_test false miss eq = let x = takes.some s a eq in (other_way x.0, x.1, x.2)
 
     again : (s : Seen) (d : Either (Unit {0}) D) → word_of s ≡ either_key k key2 d → fixed (either_key k key2 d) ≡ either_key k key2 d → cond (test (word_of s)) (Some (f s.place)) (value s) ≡ Some (either_value f t2 s.place d)
@@ -187,7 +174,7 @@ spot p name = record { name = name; place = p }
 
 name_only : (s : Seen) → is_named (word_of s) ≡ true → word_of s ≡ named s.text
 unfolding is_named
-name_only s h = ap (λ (x : TokenKind). word_at x s.text) (sym (same_kind Name s.kind (and_first (is_kind Name s.kind) (is_name s.text) h)))
+name_only s h = ap (λ (x : TokenKind). word_at x s.text) (sym (same_kind Name s.kind (and_parts (is_kind Name s.kind) (is_name s.text) h).0))
 
 -- a name that is no other one when it is made a token
 pub fixed_name : (name : List ℕ) → fixed (named name) ≡ named name → is_name name ≡ true
@@ -210,8 +197,8 @@ spot_takes = record { any = codes "a"; some = some; again = again; repaired = re
     some s a eq = by_test (is_named (word_of s)) refl eq
       where
         by_test : (b : Bool) → is_named (word_of s) ≡ b → cond b (Some (spot s.place s.text)) None ≡ Some a → (d : List ℕ) × (word_of s ≡ named d) × (a ≡ spot s.place d)
-        by_test true hit eq = (s.text, name_only s hit, sym (same_some (spot s.place s.text) a eq))
-        by_test false miss eq = absurd (some_none a eq)
+        by_test true hit eq = (s.text, name_only s hit, sym (same_Some (spot s.place s.text) a eq))
+        by_test false miss eq = absurd (none-some a eq)
 
     again : (s : Seen) (d : List ℕ) → word_of s ≡ named d → fixed (named d) ≡ named d → cond (is_named (word_of s)) (Some (spot s.place s.text)) None ≡ Some (spot s.place d)
     again s d is fine = rw (ap is_named is ∙ named_name d (fixed_name d fine)) (ap (λ (n : List ℕ). Some (spot s.place n)) (ap (λ (w : Word). w.text) is))
@@ -255,19 +242,19 @@ same_byte b e = (Decides-eqb b 39).0 e
 -- the text is that of the value
 quoted_takes : (text value : List ℕ) → value_of_text text ≡ Some value → text ≡ quoted value
 unfolding value_of_text
-quoted_takes [] value e = absurd (some_none value e)
+quoted_takes [] value e = absurd (none-some value e)
 quoted_takes (b ∷ bs) value e = by_quote (nat_eq b 39) refl e
   where
     kept : (o : Option (List ℕ)) → value_from [] false bs ≡ o → short_text o ≡ Some value → nat_eq b 39 ≡ true → b ∷ bs ≡ quoted value
-    kept None is e quote = absurd (some_none value e)
+    kept None is e quote = absurd (none-some value e)
     kept (Some found) is e quote = by_short (is_utf8 found && nat_le (length found) 1000) e
       where
         by_short : (t : Bool) → cond t (Some found) None ≡ Some value → b ∷ bs ≡ quoted value
-        by_short false e = absurd (some_none value e)
+        by_short false e = absurd (none-some value e)
         by_short true e = value_some (b ∷ bs) bs value (omega arith) (same_byte b quote) (front b bs) (is ∙ e)
 
     by_quote : (t : Bool) → nat_eq b 39 ≡ t → cond t (short_text (value_from [] false bs)) None ≡ Some value → b ∷ bs ≡ quoted value
-    by_quote false quote e = absurd (some_none value e)
+    by_quote false quote e = absurd (none-some value e)
     by_quote true quote e = kept (value_from [] false bs) refl e quote
 
 fixed_text : (value : List ℕ) → fixed (in_quotes value) ≡ in_quotes value → value_of_text (quoted value) ≡ Some value
@@ -275,7 +262,7 @@ fixed_text value fine = by_value (value_of_text (quoted value)) refl fine
   where
     by_value : (o : Option (List ℕ)) → value_of_text (quoted value) ≡ o → text_or (in_quotes value) o ≡ in_quotes value → value_of_text (quoted value) ≡ Some value
     by_value (Some found) is fine = is ∙ ap (λ (v : List ℕ). Some v) (sym (same_value value found (quoted_takes (quoted value) found is)))
-    by_value None is fine = let none : value ≡ [] = sym (same_value [] value (ap (λ (w : Word). w.text) fine)) in absurd (some_none [] (sym is ∙ ap (λ (v : List ℕ). value_of_text (quoted v)) none ∙ empty))
+    by_value None is fine = let none : value ≡ [] = sym (same_value [] value (ap (λ (w : Word). w.text) fine)) in absurd (none-some [] (sym is ∙ ap (λ (v : List ℕ). value_of_text (quoted v)) none ∙ empty))
 
 abbrev lit_by_word : Place → Word → Option TreeExpr
 lit_by_word p w = cond (is_kind Number w.kind) (cond (is_number w.text) (Some (expr_at p (forms.Number (pos (digits_value 10 w.text))))) None) (cond (is_kind Text w.kind) (text_expr p (value_of_text w.text)) None)
@@ -293,12 +280,12 @@ lit_takes = record { any = one_way (codes "0"); some = some; again = again; repa
         by_number : (n : Bool) → is_kind Number s.kind ≡ n → (m : Bool) (t : Bool) → is_kind Text s.kind ≡ t → (o : Option (List ℕ)) → value_of_text s.text ≡ o →
             cond n (cond m (Some (expr_at s.place (forms.Number (pos (digits_value 10 s.text))))) None) (cond t (text_expr s.place o) None) ≡ Some a → (d : Either (List ℕ) (List ℕ)) × (word_of s ≡ lit_key d) × (a ≡ lit_tree s.place d)
         by_number true n true t is o of eq =
-            (one_way s.text, ap (λ (x : TokenKind). word_at x s.text) (sym (same_kind Number s.kind n)), sym (same_some (expr_at s.place (forms.Number (pos (digits_value 10 s.text)))) a eq))
-        by_number true n false t is o of eq = absurd (some_none a eq)
+            (one_way s.text, ap (λ (x : TokenKind). word_at x s.text) (sym (same_kind Number s.kind n)), sym (same_Some (expr_at s.place (forms.Number (pos (digits_value 10 s.text)))) a eq))
+        by_number true n false t is o of eq = absurd (none-some a eq)
         by_number false n m true is (Some value) of eq =
-            (other_way value, ap (λ (x : TokenKind). word_at x s.text) (sym (same_kind Text s.kind is)) ∙ ap (λ (x : List ℕ). word_at Text x) (quoted_takes s.text value of), sym (same_some (expr_at s.place (forms.Text value)) a eq))
-        by_number false n m true is None of eq = absurd (some_none a eq)
-        by_number false n m false is o of eq = absurd (some_none a eq)
+            (other_way value, ap (λ (x : TokenKind). word_at x s.text) (sym (same_kind Text s.kind is)) ∙ ap (λ (x : List ℕ). word_at Text x) (quoted_takes s.text value of), sym (same_Some (expr_at s.place (forms.Text value)) a eq))
+        by_number false n m true is None of eq = absurd (none-some a eq)
+        by_number false n m false is o of eq = absurd (none-some a eq)
 
     again : (s : Seen) (d : Either (List ℕ) (List ℕ)) → word_of s ≡ lit_key d → fixed (lit_key d) ≡ lit_key d → cond (is_kind Number s.kind) (cond (is_number s.text) (Some (expr_at s.place (forms.Number (pos (digits_value 10 s.text))))) None) (cond (is_kind Text s.kind) (text_expr s.place (value_of_text s.text)) None) ≡ Some (lit_tree s.place d)
     again s (one_way number) is fine = word_value s (digits number) is ∙ rw (fixed_number number fine) refl

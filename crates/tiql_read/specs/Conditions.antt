@@ -72,10 +72,6 @@ unfoldable pub unit_at : ℕ → Words → Reading TreeCond
 unit_at zero words = if begins opens_cond words then Err (length words) else compare_by (expression_at zero) words
 unit_at (suc room) words = if begins opens_cond words then enclosed_by (unit_at room) words else compare_by (expression_at (suc room)) words
 
--- parts between AND, in which so many more may open something
-unfoldable pub conj_at : ℕ → Words → Reading TreeCond
-conj_at room words = and_by (unit_at room) words
-
 -- a condition, in which so many more may open something
 unfoldable pub condition_at : ℕ → Words → Reading TreeCond
 condition_at room words = cond_by (unit_at room) words

@@ -70,6 +70,7 @@ literal_of seen =
     then number_of seen
     else (if is_kind kinds.Text seen.kind then text_expr seen.place (value_of_text seen.text) else None)
 
+-- the place of an expression
 abbrev pub place_of : TreeExpr → Place
 place_of expr = (out-TreeExpr expr).place
 
@@ -136,10 +137,6 @@ opened_by factor words =
 unfoldable pub factor_at : ℕ → Words → Reading TreeExpr
 factor_at zero words = if begins opens words then Err (length words) else simple_at words
 factor_at (suc room) words = if begins opens words then opened_by (factor_at room) words else simple_at words
-
--- a term, in which so many more may open something
-unfoldable pub term_at : ℕ → Words → Reading TreeExpr
-term_at room words = term_by (factor_at room) words
 
 -- an expression, in which so many more may open something
 unfoldable pub expression_at : ℕ → Words → Reading TreeExpr

@@ -7,19 +7,19 @@ use Rattle.tiql_tree.specs.Words.{Word}
 use Rattle.tiql_read.specs.Steps.{Words, Reading, many_at, next_at}
 
 -- the same part, and the same words behind it
-abbrev pub Gives : {A : Type 0} → Result (A × Bor Words) Stop → Reading A → Type 0
-Gives (Ok x) outcome = outcome ≡ Ok (x.0, x.1.now)
-Gives (Err stop) outcome = (left : ℕ) → stop ≡ Wrong left → outcome ≡ Err left
+abbrev pub ReadsAs : {A : Type 0} → Result (A × Bor Words) Stop → Reading A → Type 0
+ReadsAs (Ok x) outcome = outcome ≡ Ok (x.0, x.1.now)
+ReadsAs (Err stop) outcome = (left : ℕ) → stop ≡ Wrong left → outcome ≡ Err left
 
 -- the same words behind what is read
-abbrev pub Goes : Result (Bor Words) Stop → Result Words ℕ → Type 0
-Goes (Ok rest) outcome = outcome ≡ Ok rest.now
-Goes (Err stop) outcome = (left : ℕ) → stop ≡ Wrong left → outcome ≡ Err left
+abbrev pub ReadsTo : Result (Bor Words) Stop → Result Words ℕ → Type 0
+ReadsTo (Ok rest) outcome = outcome ≡ Ok rest.now
+ReadsTo (Err stop) outcome = (left : ℕ) → stop ≡ Wrong left → outcome ≡ Err left
 
 -- the same, of all words
-abbrev pub GivesAll : {A : Type 0} → Result A Stop → Result A ℕ → Type 0
-GivesAll (Ok x) outcome = outcome ≡ Ok x
-GivesAll (Err stop) outcome = (left : ℕ) → stop ≡ Wrong left → outcome ≡ Err left
+abbrev pub ReadsAllAs : {A : Type 0} → Result A Stop → Result A ℕ → Type 0
+ReadsAllAs (Ok x) outcome = outcome ≡ Ok x
+ReadsAllAs (Err stop) outcome = (left : ℕ) → stop ≡ Wrong left → outcome ≡ Err left
 
 -- these parts, and those that are read
 abbrev pub with_front : {A : Type 0} → List A → Reading (List A) → Reading (List A)

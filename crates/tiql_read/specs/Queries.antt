@@ -107,6 +107,7 @@ view_at words =
 unfoldable pub for_all : Seen → Option Bool
 for_all seen = if is_key (codes "ALL") (word_of seen) then Some true else (if is_key (codes "SOME") (word_of seen) then Some false else None)
 
+-- ALL or SOME of a relation's rows meet the condition
 abbrev pub require_of : Bool → Spot → TreeCond → TreeRequire
 require_of true name cond = needs.All name cond
 require_of false name cond = needs.Some name cond

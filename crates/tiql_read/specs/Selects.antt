@@ -40,11 +40,13 @@ aggregate_of seen =
 unfoldable pub is_aggregate : Word → Bool
 is_aggregate word = is_key (codes "SUM") word || (is_key (codes "MIN") word || is_key (codes "MAX") word)
 
+-- the aggregate of an expression
 abbrev pub value_by : Aggregate → TreeExpr → TreeValue
 value_by Sum part = values.Sum part
 value_by Min part = values.Min part
 value_by Max part = values.Max part
 
+-- an item of these parts
 abbrev pub item_of : Place → TreeValue → Spot → TreeItem
 item_of place value name = record { place = place; value = value; name = name }
 
@@ -90,6 +92,7 @@ item_at words =
 unfoldable pub alias_if : Words → Reading (Option Spot)
 alias_if words = if begins (is_key (codes "AS")) words then (alias_at words >>= λ name. Ok (Some name.0, name.1)) else Ok (None, words)
 
+-- a source, whose alias is the relation's own name where none is given
 abbrev pub source_of : Spot → Option Spot → TreeSource
 source_of relation None = record { relation = relation; alias = relation }
 source_of relation (Some alias) = record { relation = relation; alias = alias }

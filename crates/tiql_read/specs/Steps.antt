@@ -10,6 +10,7 @@ use Rattle.tiql_tree.specs.declared.tree.Spot.{Spot}
 use Rattle.tiql_tree.specs.Words.{Word}
 use Rattle.tiql_read.specs.declared.word.Seen.{Seen}
 
+-- tokens that are still to be read
 abbrev pub Words : Type 0
 Words = List Seen
 
@@ -60,6 +61,7 @@ first_as value (seen ∷ words) = with_rest words (value seen)
 unfoldable pub take_as : {A : Type 0} → (Seen → Option A) → Words → Reading A
 take_as value words = told words (first_as value words)
 
+-- two kinds of tokens are one
 abbrev pub is_kind : TokenKind → TokenKind → Bool
 is_kind Name Name = true
 is_kind Keyword Keyword = true

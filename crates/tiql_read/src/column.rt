@@ -1,6 +1,6 @@
 //! Reads columns as expressions name them, and what numbers and texts say.
 ghost use Rattle.std.specs.Prelude.{◌≡◌, IfOk};
-ghost use Rattle.tiql_read.specs.Outcomes.{Gives};
+ghost use Rattle.tiql_read.specs.Outcomes.{ReadsAs};
 ghost use Rattle.tiql_read.specs.Steps.{begins, take_as, is_named, word_of};
 ghost use Rattle.tiql_read.specs.Expressions as spec;
 
@@ -14,7 +14,7 @@ use tiql_tree::{Spot, TreeExpr, TreeForm, TreeRef};
 // A name behind a point, where one stands here.
 #[tactic(auto, unfolding(crate::specs::Expressions::point_at))]
 fn behind_point(alloc: Global, words: &[Seen]) -> Reading<'_, Option<Spot>>
-    ensures { Gives result (spec.point_at words.now) }
+    ensures { ReadsAs result (spec.point_at words.now) }
 {
     if !begins_sign(words, b".") {
         return Ok((None, words));
@@ -44,7 +44,7 @@ fn ref_of(first: Spot, more: Option<Spot>) -> TreeRef
 /// A column, by its name alone or behind a relation's.
 #[tactic(auto, unfolding(crate::specs::Expressions::ref_at))]
 pub fn column(alloc: Global, words: &[Seen]) -> Reading<'_, TreeRef>
-    ensures { Gives result (spec.ref_at words.now) }
+    ensures { ReadsAs result (spec.ref_at words.now) }
 {
     let (first, rest) = name(alloc, words)?;
     let (more, rest) = behind_point(alloc, rest)?;
@@ -54,7 +54,7 @@ pub fn column(alloc: Global, words: &[Seen]) -> Reading<'_, TreeRef>
 /// The last name of a column.
 #[tactic(auto, unfolding(crate::specs::Expressions::ref_name_at))]
 pub fn column_name(alloc: Global, words: &[Seen]) -> Reading<'_, Spot>
-    ensures { Gives result (spec.ref_name_at words.now) }
+    ensures { ReadsAs result (spec.ref_name_at words.now) }
 {
     let (first, rest) = name(alloc, words)?;
     let (more, rest) = behind_point(alloc, rest)?;
@@ -119,7 +119,7 @@ fn literal_of(alloc: Global, seen: &Seen) -> Result<Option<TreeExpr>, Memory>
 // A number or a text.
 #[tactic(auto, unfolding(crate::specs::Steps::take_as))]
 fn literal(alloc: Global, words: &[Seen]) -> Reading<'_, TreeExpr>
-    ensures { Gives result (take_as spec.literal_of words.now) }
+    ensures { ReadsAs result (take_as spec.literal_of words.now) }
 {
     let [first, rest @ ..] = words else {
         return Err(Stop::Wrong(0));
@@ -141,7 +141,7 @@ fn begins_name(words: &[Seen]) -> bool
 /// A factor that opens nothing: a column, a number or a text.
 #[tactic(auto, unfolding(crate::specs::Expressions::simple_at))]
 pub fn simple(alloc: Global, words: &[Seen]) -> Reading<'_, TreeExpr>
-    ensures { Gives result (spec.simple_at words.now) }
+    ensures { ReadsAs result (spec.simple_at words.now) }
 {
     if !begins_name(words) {
         return literal(alloc, words);

@@ -1,21 +1,28 @@
 //! Reads conditions.
 ghost use Rattle.std.specs.Prelude.{◌≡◌, codes};
-ghost use Rattle.tiql_read.specs.Outcomes.{Gives, parts_behind};
+ghost use Rattle.tiql_read.specs.Outcomes.{ReadsAs, parts_behind};
 ghost use Rattle.tiql_read.specs.Steps.{begins, take_as, many_at, next_at, is_key};
 ghost use Rattle.tiql_read.specs.Expressions.{expression_at};
 ghost use Rattle.tiql_read.specs.Conditions as spec;
 
-use crate::expression::expression;
+use crate::expression::{MOST_NESTED, expression};
 use crate::leaf::{after_key, begins_key, is_key, is_sign, key, sign, told};
 use crate::word::{Reading, Seen, Stop};
 use base_kit::{Boxed, List};
 use std::alloc::Global;
 use tiql_tree::{TreeCmp, TreeCond};
 
-/// A condition, in which so many more signs and words may open something.
+/// A condition that nothing encloses.
+pub fn whole_condition(alloc: Global, words: &[Seen]) -> Reading<'_, TreeCond>
+    ensures { ReadsAs result (spec.condition_at 64 words.now) }
+{
+    condition(alloc, MOST_NESTED, words)
+}
+
+// A condition, in which so many more signs and words may open something.
 #[tactic(auto, unfolding(crate::specs::Conditions::condition_at))]
-pub fn condition(alloc: Global, room: u32, words: &[Seen]) -> Reading<'_, TreeCond>
-    ensures { Gives result (spec.condition_at room words.now) }
+fn condition(alloc: Global, room: u32, words: &[Seen]) -> Reading<'_, TreeCond>
+    ensures { ReadsAs result (spec.condition_at room words.now) }
 {
     alternatives(alloc, room, words)
 }
@@ -56,7 +63,7 @@ fn cmp_of(seen: &Seen) -> Option<TreeCmp>
 // The sign of a comparison.
 #[tactic(auto, unfolding(crate::specs::Steps::take_as))]
 fn cmp(words: &[Seen]) -> Reading<'_, TreeCmp>
-    ensures { Gives result (take_as spec.cmp_of words.now) }
+    ensures { ReadsAs result (take_as spec.cmp_of words.now) }
 {
     let [first, rest @ ..] = words else {
         return Err(Stop::Wrong(0));
@@ -67,7 +74,7 @@ fn cmp(words: &[Seen]) -> Reading<'_, TreeCmp>
 // Two expressions, compared.
 #[tactic(auto, unfolding(crate::specs::Conditions::compare_by))]
 fn compared(alloc: Global, room: u32, words: &[Seen]) -> Reading<'_, TreeCond>
-    ensures { Gives result (spec.compare_by (expression_at room) words.now) }
+    ensures { ReadsAs result (spec.compare_by (expression_at room) words.now) }
 {
     let (one, rest) = expression(alloc, room, words)?;
     let (cmp, rest) = cmp(rest)?;
@@ -79,7 +86,7 @@ fn compared(alloc: Global, room: u32, words: &[Seen]) -> Reading<'_, TreeCond>
 #[cycle(hold)]
 #[tactic(auto, unfolding(crate::specs::Conditions::or_by))]
 fn alternatives(alloc: Global, room: u32, words: &[Seen]) -> Reading<'_, TreeCond>
-    ensures { Gives result (spec.cond_by (spec.unit_at room) words.now) }
+    ensures { ReadsAs result (spec.cond_by (spec.unit_at room) words.now) }
 {
     let (first, rest) = together(alloc, room, words)?;
     if !begins_key(rest, b"OR") {
@@ -99,7 +106,7 @@ fn more_alternatives(
     parts: List<TreeCond>,
     words: &[Seen],
 ) -> Reading<'_, List<TreeCond>>
-    ensures { Gives result (parts_behind parts (is_key (codes "OR")) (spec.and_by (spec.unit_at room)) words.now) }
+    ensures { ReadsAs result (parts_behind parts (is_key (codes "OR")) (spec.and_by (spec.unit_at room)) words.now) }
 {
     let mut parts = parts;
     let mut rest = words;
@@ -119,7 +126,7 @@ fn more_alternatives(
 #[cycle(hold)]
 #[tactic(auto, unfolding(crate::specs::Conditions::and_by))]
 fn together(alloc: Global, room: u32, words: &[Seen]) -> Reading<'_, TreeCond>
-    ensures { Gives result (spec.and_by (spec.unit_at room) words.now) }
+    ensures { ReadsAs result (spec.and_by (spec.unit_at room) words.now) }
 {
     let (first, rest) = unit(alloc, room, words)?;
     if !begins_key(rest, b"AND") {
@@ -139,7 +146,7 @@ fn more_together(
     parts: List<TreeCond>,
     words: &[Seen],
 ) -> Reading<'_, List<TreeCond>>
-    ensures { Gives result (parts_behind parts (is_key (codes "AND")) (spec.unit_at room) words.now) }
+    ensures { ReadsAs result (parts_behind parts (is_key (codes "AND")) (spec.unit_at room) words.now) }
 {
     let mut parts = parts;
     let mut rest = words;
@@ -158,7 +165,7 @@ fn more_together(
 // A part of a condition.
 #[cycle(hold)]
 fn unit(alloc: Global, room: u32, words: &[Seen]) -> Reading<'_, TreeCond>
-    ensures { Gives result (spec.unit_at room words.now) }
+    ensures { ReadsAs result (spec.unit_at room words.now) }
 {
     if !begins_opening(words) {
         return compared(alloc, room, words);
@@ -173,7 +180,7 @@ fn unit(alloc: Global, room: u32, words: &[Seen]) -> Reading<'_, TreeCond>
 #[cycle(hold)]
 #[tactic(auto, unfolding(crate::specs::Conditions::enclosed_by))]
 fn opened(alloc: Global, room: u32, words: &[Seen]) -> Reading<'_, TreeCond>
-    ensures { Gives result (spec.enclosed_by (spec.unit_at room) words.now) }
+    ensures { ReadsAs result (spec.enclosed_by (spec.unit_at room) words.now) }
 {
     if begins_key(words, b"NOT") {
         let rest = key(words, b"NOT")?;

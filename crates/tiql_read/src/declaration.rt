@@ -1,11 +1,11 @@
 //! Reads declarations.
 ghost use Rattle.std.specs.Prelude.{◌≡◌, codes};
-ghost use Rattle.tiql_read.specs.Outcomes.{Gives, with_front};
+ghost use Rattle.tiql_read.specs.Outcomes.{ReadsAs, with_front};
 ghost use Rattle.tiql_read.specs.Steps.{take_as, many_at, is_key};
 ghost use Rattle.tiql_read.specs.Queries as spec;
 
-use crate::condition::condition;
-use crate::expression::{MOST_NESTED, expression};
+use crate::condition::whole_condition;
+use crate::expression::whole_expression;
 use crate::leaf::{begins_key, is_key, key, mark_key, name, sign, told};
 use crate::list::{Part, list};
 use crate::select::{filter, select};
@@ -34,7 +34,7 @@ fn type_of(seen: &Seen) -> Option<bool>
 // The type of a column.
 #[tactic(auto, unfolding(crate::specs::Steps::take_as))]
 fn column_type(words: &[Seen]) -> Reading<'_, bool>
-    ensures { Gives result (take_as spec.type_of words.now) }
+    ensures { ReadsAs result (take_as spec.type_of words.now) }
 {
     let [first, rest @ ..] = words else {
         return Err(Stop::Wrong(0));
@@ -68,7 +68,7 @@ impl Part for Spot {
 // The names of a KEY, where KEY stands here.
 #[tactic(auto, unfolding(crate::specs::Queries::key_at))]
 fn key_names(alloc: Global, words: &[Seen]) -> Reading<'_, List<Spot>>
-    ensures { Gives result (spec.key_at words.now) }
+    ensures { ReadsAs result (spec.key_at words.now) }
 {
     if !begins_key(words, b"KEY") {
         return Ok((List::new(alloc), words));
@@ -83,7 +83,7 @@ fn key_names(alloc: Global, words: &[Seen]) -> Reading<'_, List<Spot>>
 // A table.
 #[tactic(auto, unfolding(crate::specs::Queries::table_at))]
 fn table(alloc: Global, words: &[Seen]) -> Reading<'_, TreeTable>
-    ensures { Gives result (spec.table_at words.now) }
+    ensures { ReadsAs result (spec.table_at words.now) }
 {
     let rest = key(words, b"TABLE")?;
     let (name, rest) = name(alloc, rest)?;
@@ -104,9 +104,9 @@ impl Part for TreeBound {
     fn read(alloc: Global, words: &[Seen]) -> Reading<'_, TreeBound> {
         let (name, rest) = name(alloc, words)?;
         let rest = key(rest, b"IN")?;
-        let (lo, rest) = expression(alloc, MOST_NESTED, rest)?;
+        let (lo, rest) = whole_expression(alloc, rest)?;
         let rest = sign(rest, b"..")?;
-        let (hi, rest) = expression(alloc, MOST_NESTED, rest)?;
+        let (hi, rest) = whole_expression(alloc, rest)?;
         Ok((TreeBound { name, lo, hi }, rest))
     }
 }
@@ -114,7 +114,7 @@ impl Part for TreeBound {
 // The bounds behind SET, where SET stands here.
 #[tactic(auto, unfolding(crate::specs::Queries::bounds_at))]
 fn bounds(alloc: Global, words: &[Seen]) -> Reading<'_, List<TreeBound>>
-    ensures { Gives result (spec.bounds_at words.now) }
+    ensures { ReadsAs result (spec.bounds_at words.now) }
 {
     if !begins_key(words, b"SET") {
         return Ok((List::new(alloc), words));
@@ -126,7 +126,7 @@ fn bounds(alloc: Global, words: &[Seen]) -> Reading<'_, List<TreeBound>>
 // The place of DROP, where DROP stands here.
 #[tactic(auto, unfolding(crate::specs::Queries::drop_at))]
 fn dropped(words: &[Seen]) -> Reading<'_, Option<Place>>
-    ensures { Gives result (spec.drop_at words.now) }
+    ensures { ReadsAs result (spec.drop_at words.now) }
 {
     if !begins_key(words, b"DROP") {
         return Ok((None, words));
@@ -138,7 +138,7 @@ fn dropped(words: &[Seen]) -> Reading<'_, Option<Place>>
 // A hypothetical table.
 #[tactic(auto, unfolding(crate::specs::Queries::hypo_at))]
 fn hypo(alloc: Global, words: &[Seen]) -> Reading<'_, TreeHypo>
-    ensures { Gives result (spec.hypo_at words.now) }
+    ensures { ReadsAs result (spec.hypo_at words.now) }
 {
     let rest = key(words, b"HYPO")?;
     let (own, rest) = name(alloc, rest)?;
@@ -161,7 +161,7 @@ fn hypo(alloc: Global, words: &[Seen]) -> Reading<'_, TreeHypo>
 // A select behind UNION ALL.
 #[tactic(auto, unfolding(crate::specs::Queries::arm_at))]
 fn arm(alloc: Global, words: &[Seen]) -> Reading<'_, TreeSelect>
-    ensures { Gives result (spec.arm_at words.now) }
+    ensures { ReadsAs result (spec.arm_at words.now) }
 {
     let rest = key(words, b"UNION")?;
     let rest = key(rest, b"ALL")?;
@@ -170,7 +170,7 @@ fn arm(alloc: Global, words: &[Seen]) -> Reading<'_, TreeSelect>
 
 // The arms so far, and all that follow behind UNION ALL.
 fn more_arms(alloc: Global, arms: List<TreeSelect>, words: &[Seen]) -> Reading<'_, List<TreeSelect>>
-    ensures { Gives result (with_front arms (many_at (is_key (codes "UNION")) spec.arm_at words.now)) }
+    ensures { ReadsAs result (with_front arms (many_at (is_key (codes "UNION")) spec.arm_at words.now)) }
 {
     let mut arms = arms;
     let mut rest = words;
@@ -189,7 +189,7 @@ fn more_arms(alloc: Global, arms: List<TreeSelect>, words: &[Seen]) -> Reading<'
 // A view.
 #[tactic(auto, unfolding(crate::specs::Queries::view_at))]
 fn view(alloc: Global, words: &[Seen]) -> Reading<'_, TreeView>
-    ensures { Gives result (spec.view_at words.now) }
+    ensures { ReadsAs result (spec.view_at words.now) }
 {
     let rest = key(words, b"VIEW")?;
     let (name, rest) = name(alloc, rest)?;
@@ -219,7 +219,7 @@ fn for_all(seen: &Seen) -> Option<bool>
 // ALL or SOME.
 #[tactic(auto, unfolding(crate::specs::Steps::take_as))]
 fn all_or_some(words: &[Seen]) -> Reading<'_, bool>
-    ensures { Gives result (take_as spec.for_all words.now) }
+    ensures { ReadsAs result (take_as spec.for_all words.now) }
 {
     let [first, rest @ ..] = words else {
         return Err(Stop::Wrong(0));
@@ -240,12 +240,12 @@ fn require_of(all: bool, name: Spot, cond: TreeCond) -> TreeRequire
 // What must hold of all rows or of some row.
 #[tactic(auto, unfolding(crate::specs::Queries::have_at))]
 fn have(alloc: Global, words: &[Seen]) -> Reading<'_, TreeRequire>
-    ensures { Gives result (spec.have_at words.now) }
+    ensures { ReadsAs result (spec.have_at words.now) }
 {
     let (all, rest) = all_or_some(words)?;
     let (name, rest) = name(alloc, rest)?;
     let rest = key(rest, b"HAVE")?;
-    let (cond, rest) = condition(alloc, MOST_NESTED, rest)?;
+    let (cond, rest) = whole_condition(alloc, rest)?;
     let rest = sign(rest, b";")?;
     Ok((require_of(all, name, cond), rest))
 }
@@ -253,7 +253,7 @@ fn have(alloc: Global, words: &[Seen]) -> Reading<'_, TreeRequire>
 // That there is no row.
 #[tactic(auto, unfolding(crate::specs::Queries::none_at))]
 fn no_row(alloc: Global, words: &[Seen]) -> Reading<'_, TreeRequire>
-    ensures { Gives result (spec.none_at words.now) }
+    ensures { ReadsAs result (spec.none_at words.now) }
 {
     let rest = key(words, b"NONE")?;
     let (name, rest) = name(alloc, rest)?;
@@ -264,7 +264,7 @@ fn no_row(alloc: Global, words: &[Seen]) -> Reading<'_, TreeRequire>
 // A requirement.
 #[tactic(auto, unfolding(crate::specs::Queries::require_at))]
 fn require(alloc: Global, words: &[Seen]) -> Reading<'_, TreeRequire>
-    ensures { Gives result (spec.require_at words.now) }
+    ensures { ReadsAs result (spec.require_at words.now) }
 {
     let rest = key(words, b"REQUIRE")?;
     if begins_key(rest, b"NONE") {
@@ -277,7 +277,7 @@ fn require(alloc: Global, words: &[Seen]) -> Reading<'_, TreeRequire>
 /// A declaration.
 #[tactic(auto, unfolding(crate::specs::Queries::decl_at))]
 pub fn declaration(alloc: Global, words: &[Seen]) -> Reading<'_, Decl>
-    ensures { Gives result (spec.decl_at words.now) }
+    ensures { ReadsAs result (spec.decl_at words.now) }
 {
     if begins_key(words, b"TABLE") {
         let (table, rest) = table(alloc, words)?;

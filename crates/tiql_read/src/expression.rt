@@ -1,6 +1,6 @@
 //! Reads expressions.
 ghost use Rattle.std.specs.Prelude.{◌≡◌, codes};
-ghost use Rattle.tiql_read.specs.Outcomes.{Gives, with_front, parts_behind};
+ghost use Rattle.tiql_read.specs.Outcomes.{ReadsAs, with_front, parts_behind};
 ghost use Rattle.tiql_read.specs.Steps.{begins, take_as, many_at, next_at, is_sign};
 ghost use Rattle.tiql_read.specs.Expressions as spec;
 
@@ -11,13 +11,28 @@ use base_kit::{Boxed, List};
 use std::alloc::Global;
 use tiql_tree::{TreeExpr, TreeForm, TreeSigned};
 
-/// Within how many signs and words that open something a token may lie (docs/LANGUAGE.md, "Grammar").
+/// The deepest nesting: within at most so many signs and words that open something a token may lie (docs/LANGUAGE.md,
+/// "Grammar").
 pub const MOST_NESTED: u32 = 64;
+
+/// An expression that nothing encloses.
+pub fn whole_expression(alloc: Global, words: &[Seen]) -> Reading<'_, TreeExpr>
+    ensures { ReadsAs result (spec.expression_at 64 words.now) }
+{
+    expression(alloc, MOST_NESTED, words)
+}
+
+/// An expression inside one sign or word that opens something.
+pub fn inner_expression(alloc: Global, words: &[Seen]) -> Reading<'_, TreeExpr>
+    ensures { ReadsAs result (spec.expression_at 63 words.now) }
+{
+    expression(alloc, MOST_NESTED - 1, words)
+}
 
 /// An expression, in which so many more signs and words may open something.
 #[tactic(auto, unfolding(crate::specs::Expressions::expression_at))]
 pub fn expression(alloc: Global, room: u32, words: &[Seen]) -> Reading<'_, TreeExpr>
-    ensures { Gives result (spec.expression_at room words.now) }
+    ensures { ReadsAs result (spec.expression_at room words.now) }
 {
     sum(alloc, room, words)
 }
@@ -61,7 +76,7 @@ fn minus_of(seen: &Seen) -> Option<bool>
 // A plus or minus sign.
 #[tactic(auto, unfolding(crate::specs::Steps::take_as))]
 fn minus(words: &[Seen]) -> Reading<'_, bool>
-    ensures { Gives result (take_as spec.minus_of words.now) }
+    ensures { ReadsAs result (take_as spec.minus_of words.now) }
 {
     let [first, rest @ ..] = words else {
         return Err(Stop::Wrong(0));
@@ -73,7 +88,7 @@ fn minus(words: &[Seen]) -> Reading<'_, bool>
 #[cycle(read)]
 #[tactic(auto, unfolding(crate::specs::Expressions::sum_by))]
 fn sum(alloc: Global, room: u32, words: &[Seen]) -> Reading<'_, TreeExpr>
-    ensures { Gives result (spec.expr_by (spec.factor_at room) words.now) }
+    ensures { ReadsAs result (spec.expr_by (spec.factor_at room) words.now) }
 {
     let (first, rest) = term(alloc, room, words)?;
     if !begins_adding(rest) {
@@ -98,7 +113,7 @@ fn more_terms(
     parts: List<TreeSigned>,
     words: &[Seen],
 ) -> Reading<'_, List<TreeSigned>>
-    ensures { Gives result
+    ensures { ReadsAs result
         (with_front parts (many_at spec.adds (spec.signed_by (spec.term_by (spec.factor_at room))) words.now)) }
 {
     let mut parts = parts;
@@ -119,7 +134,7 @@ fn more_terms(
 #[cycle(read)]
 #[tactic(auto, unfolding(crate::specs::Expressions::signed_by))]
 fn signed_term(alloc: Global, room: u32, words: &[Seen]) -> Reading<'_, TreeSigned>
-    ensures { Gives result (spec.signed_by (spec.term_by (spec.factor_at room)) words.now) }
+    ensures { ReadsAs result (spec.signed_by (spec.term_by (spec.factor_at room)) words.now) }
 {
     let (minus, rest) = minus(words)?;
     let (part, rest) = term(alloc, room, rest)?;
@@ -130,7 +145,7 @@ fn signed_term(alloc: Global, room: u32, words: &[Seen]) -> Reading<'_, TreeSign
 #[cycle(read)]
 #[tactic(auto, unfolding(crate::specs::Expressions::term_by))]
 fn term(alloc: Global, room: u32, words: &[Seen]) -> Reading<'_, TreeExpr>
-    ensures { Gives result (spec.term_by (spec.factor_at room) words.now) }
+    ensures { ReadsAs result (spec.term_by (spec.factor_at room) words.now) }
 {
     let (first, rest) = factor(alloc, room, words)?;
     if !begins_sign(rest, b"*") {
@@ -152,7 +167,7 @@ fn more_factors(
     parts: List<TreeExpr>,
     words: &[Seen],
 ) -> Reading<'_, List<TreeExpr>>
-    ensures { Gives result (parts_behind parts (is_sign (codes "*")) (spec.factor_at room) words.now) }
+    ensures { ReadsAs result (parts_behind parts (is_sign (codes "*")) (spec.factor_at room) words.now) }
 {
     let mut parts = parts;
     let mut rest = words;
@@ -171,7 +186,7 @@ fn more_factors(
 // A factor.
 #[cycle(read)]
 fn factor(alloc: Global, room: u32, words: &[Seen]) -> Reading<'_, TreeExpr>
-    ensures { Gives result (spec.factor_at room words.now) }
+    ensures { ReadsAs result (spec.factor_at room words.now) }
 {
     if !begins_opening(words) {
         return simple(alloc, words);
@@ -186,7 +201,7 @@ fn factor(alloc: Global, room: u32, words: &[Seen]) -> Reading<'_, TreeExpr>
 #[cycle(read)]
 #[tactic(auto, unfolding(crate::specs::Expressions::opened_by))]
 fn opened(alloc: Global, room: u32, words: &[Seen]) -> Reading<'_, TreeExpr>
-    ensures { Gives result (spec.opened_by (spec.factor_at room) words.now) }
+    ensures { ReadsAs result (spec.opened_by (spec.factor_at room) words.now) }
 {
     if begins_sign(words, b"-") {
         let (place, rest) = mark_sign(words, b"-")?;

@@ -1,11 +1,11 @@
 //! Reads the items of a select.
 ghost use Rattle.std.specs.Prelude.{◌≡◌};
-ghost use Rattle.tiql_read.specs.Outcomes.{Gives};
+ghost use Rattle.tiql_read.specs.Outcomes.{ReadsAs};
 ghost use Rattle.tiql_read.specs.Steps.{begins, take_as};
 ghost use Rattle.tiql_read.specs.Selects as spec;
 
 use crate::column::column_name;
-use crate::expression::{MOST_NESTED, expression};
+use crate::expression::{inner_expression, whole_expression};
 use crate::leaf::{begins_key, is_key, key, mark_key, name, sign, told};
 use crate::list::Part;
 use crate::word::{Aggregate, Reading, Seen, Stop};
@@ -16,7 +16,7 @@ use tiql_tree::{Spot, TreeExpr, TreeItem, TreeValue};
 /// A name behind AS.
 #[tactic(auto, unfolding(crate::specs::Selects::alias_at))]
 pub fn alias(alloc: Global, words: &[Seen]) -> Reading<'_, Spot>
-    ensures { Gives result (spec.alias_at words.now) }
+    ensures { ReadsAs result (spec.alias_at words.now) }
 {
     let rest = key(words, b"AS")?;
     name(alloc, rest)
@@ -25,10 +25,10 @@ pub fn alias(alloc: Global, words: &[Seen]) -> Reading<'_, Spot>
 /// An expression in parentheses, of which the opening one counts among what opens something.
 #[tactic(auto, unfolding(crate::specs::Selects::grouped_at))]
 pub fn grouped(alloc: Global, words: &[Seen]) -> Reading<'_, TreeExpr>
-    ensures { Gives result (spec.grouped_at words.now) }
+    ensures { ReadsAs result (spec.grouped_at words.now) }
 {
     let rest = sign(words, b"(")?;
-    let (part, rest) = expression(alloc, MOST_NESTED - 1, rest)?;
+    let (part, rest) = inner_expression(alloc, rest)?;
     let rest = sign(rest, b")")?;
     Ok((part, rest))
 }
@@ -52,7 +52,7 @@ fn aggregate_of(seen: &Seen) -> Option<(Aggregate, Place)>
 // The word of an aggregate of an expression.
 #[tactic(auto, unfolding(crate::specs::Steps::take_as))]
 fn aggregate_word(words: &[Seen]) -> Reading<'_, (Aggregate, Place)>
-    ensures { Gives result (take_as spec.aggregate_of words.now) }
+    ensures { ReadsAs result (take_as spec.aggregate_of words.now) }
 {
     let [first, rest @ ..] = words else {
         return Err(Stop::Wrong(0));
@@ -84,7 +84,7 @@ fn value_by(aggregate: Aggregate, part: TreeExpr) -> TreeValue
 // SUM, MIN or MAX of an expression.
 #[tactic(auto, unfolding(crate::specs::Selects::aggregate_at))]
 fn aggregate(alloc: Global, words: &[Seen]) -> Reading<'_, TreeItem>
-    ensures { Gives result (spec.aggregate_at words.now) }
+    ensures { ReadsAs result (spec.aggregate_at words.now) }
 {
     let ((aggregate, place), rest) = aggregate_word(words)?;
     let (part, rest) = grouped(alloc, rest)?;
@@ -96,7 +96,7 @@ fn aggregate(alloc: Global, words: &[Seen]) -> Reading<'_, TreeItem>
 // COUNT(*)
 #[tactic(auto, unfolding(crate::specs::Selects::count_at))]
 fn count(alloc: Global, words: &[Seen]) -> Reading<'_, TreeItem>
-    ensures { Gives result (spec.count_at words.now) }
+    ensures { ReadsAs result (spec.count_at words.now) }
 {
     let (place, rest) = mark_key(words, b"COUNT")?;
     let rest = sign(rest, b"(")?;
@@ -110,7 +110,7 @@ fn count(alloc: Global, words: &[Seen]) -> Reading<'_, TreeItem>
 // The last name of the column that all of the words up to the rest are.
 #[tactic(auto, unfolding(crate::specs::Selects::lone_name))]
 fn lone_name<'a>(alloc: Global, words: &'a [Seen], rest: &'a [Seen]) -> Reading<'a, Spot>
-    ensures { Gives result (spec.lone_name words.now rest.now) }
+    ensures { ReadsAs result (spec.lone_name words.now rest.now) }
 {
     match column_name(alloc, words) {
         Ok((name, behind)) => {
@@ -128,7 +128,7 @@ fn lone_name<'a>(alloc: Global, words: &'a [Seen], rest: &'a [Seen]) -> Reading<
 // The name behind AS, or that of a column which stands alone.
 #[tactic(auto, unfolding(crate::specs::Selects::name_at))]
 fn item_name<'a>(alloc: Global, words: &'a [Seen], rest: &'a [Seen]) -> Reading<'a, Spot>
-    ensures { Gives result (spec.name_at words.now rest.now) }
+    ensures { ReadsAs result (spec.name_at words.now rest.now) }
 {
     if begins_key(rest, b"AS") {
         alias(alloc, rest)
@@ -140,9 +140,9 @@ fn item_name<'a>(alloc: Global, words: &'a [Seen], rest: &'a [Seen]) -> Reading<
 // A column, or an expression with a name.
 #[tactic(auto, unfolding(crate::specs::Selects::plain_at))]
 fn plain(alloc: Global, words: &[Seen]) -> Reading<'_, TreeItem>
-    ensures { Gives result (spec.plain_at words.now) }
+    ensures { ReadsAs result (spec.plain_at words.now) }
 {
-    let (part, rest) = expression(alloc, MOST_NESTED, words)?;
+    let (part, rest) = whole_expression(alloc, words)?;
     let (name, rest) = item_name(alloc, words, rest)?;
     let place = part.place;
     let value = TreeValue::Plain(part);

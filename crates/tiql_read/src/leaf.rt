@@ -1,6 +1,6 @@
 //! Reads what is one word.
 ghost use Rattle.std.specs.Prelude.{◌≡◌, IfOk, option_map};
-ghost use Rattle.tiql_read.specs.Outcomes.{Gives, Goes};
+ghost use Rattle.tiql_read.specs.Outcomes.{ReadsAs, ReadsTo};
 ghost use Rattle.tiql_read.specs.Steps as spec;
 
 use crate::word::{Reading, Seen, Stop};
@@ -83,7 +83,7 @@ pub fn after_key<'a>(words: &'a [Seen], text: &[u8]) -> Option<&'a [Seen]>
 /// The words behind this reserved word, which must stand here.
 #[tactic(auto, unfolding(crate::specs::Steps::need))]
 pub fn key<'a>(words: &'a [Seen], text: &[u8]) -> Result<&'a [Seen], Stop>
-    ensures { Goes result (spec.need (spec.is_key text.now) words.now) }
+    ensures { ReadsTo result (spec.need (spec.is_key text.now) words.now) }
 {
     match after_key(words, text) {
         Some(rest) => Ok(rest),
@@ -94,7 +94,7 @@ pub fn key<'a>(words: &'a [Seen], text: &[u8]) -> Result<&'a [Seen], Stop>
 /// The words behind this sign, which must stand here.
 #[tactic(auto, unfolding(crate::specs::Steps::need))]
 pub fn sign<'a>(words: &'a [Seen], text: &[u8]) -> Result<&'a [Seen], Stop>
-    ensures { Goes result (spec.need (spec.is_sign text.now) words.now) }
+    ensures { ReadsTo result (spec.need (spec.is_sign text.now) words.now) }
 {
     match after_sign(words, text) {
         Some(rest) => Ok(rest),
@@ -104,7 +104,7 @@ pub fn sign<'a>(words: &'a [Seen], text: &[u8]) -> Result<&'a [Seen], Stop>
 
 /// The value of the first of the words with the rest of them, or the first word is wrong.
 pub fn told<'a, T>(words: &'a [Seen], value: Option<T>, rest: &'a [Seen]) -> Reading<'a, T>
-    ensures { Gives result (spec.told words.now (spec.with_rest rest.now value)) }
+    ensures { ReadsAs result (spec.told words.now (spec.with_rest rest.now value)) }
 {
     match value {
         Some(value) => Ok((value, rest)),
@@ -115,7 +115,7 @@ pub fn told<'a, T>(words: &'a [Seen], value: Option<T>, rest: &'a [Seen]) -> Rea
 /// The place of this reserved word, which must stand here.
 #[tactic(auto, unfolding(crate::specs::Steps::mark_at, crate::specs::Steps::take_as))]
 pub fn mark_key<'a>(words: &'a [Seen], text: &[u8]) -> Reading<'a, Place>
-    ensures { Gives result (spec.mark_at (spec.is_key text.now) words.now) }
+    ensures { ReadsAs result (spec.mark_at (spec.is_key text.now) words.now) }
 {
     let [first, rest @ ..] = words else {
         return Err(Stop::Wrong(0));
@@ -130,7 +130,7 @@ pub fn mark_key<'a>(words: &'a [Seen], text: &[u8]) -> Reading<'a, Place>
 /// The place of this sign, which must stand here.
 #[tactic(auto, unfolding(crate::specs::Steps::mark_at, crate::specs::Steps::take_as))]
 pub fn mark_sign<'a>(words: &'a [Seen], text: &[u8]) -> Reading<'a, Place>
-    ensures { Gives result (spec.mark_at (spec.is_sign text.now) words.now) }
+    ensures { ReadsAs result (spec.mark_at (spec.is_sign text.now) words.now) }
 {
     let [first, rest @ ..] = words else {
         return Err(Stop::Wrong(0));
@@ -145,7 +145,7 @@ pub fn mark_sign<'a>(words: &'a [Seen], text: &[u8]) -> Reading<'a, Place>
 /// A name.
 #[tactic(auto, unfolding(crate::specs::Steps::spot_at, crate::specs::Steps::take_as))]
 pub fn name(alloc: Global, words: &[Seen]) -> Reading<'_, Spot>
-    ensures { Gives result (spec.spot_at words.now) }
+    ensures { ReadsAs result (spec.spot_at words.now) }
 {
     let [first, rest @ ..] = words else {
         return Err(Stop::Wrong(0));

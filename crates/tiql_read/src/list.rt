@@ -1,6 +1,6 @@
 //! Reads parts with commas between them.
 ghost use Rattle.std.specs.Prelude.{codes};
-ghost use Rattle.tiql_read.specs.Outcomes.{Gives, parts_behind};
+ghost use Rattle.tiql_read.specs.Outcomes.{ReadsAs, parts_behind};
 ghost use Rattle.tiql_read.specs.Steps.{many_at, next_at, list_at, is_sign};
 
 use crate::leaf::after_sign;
@@ -10,7 +10,7 @@ use std::alloc::Global;
 
 /// What is read by a rule of the grammar.
 pub trait Part: Drop {
-    ghost use Rattle.tiql_read.specs.Outcomes.{Gives};
+    ghost use Rattle.tiql_read.specs.Outcomes.{ReadsAs};
     ghost use Rattle.tiql_read.specs.Steps.{Words, Reading};
 
     /// How it is read.
@@ -18,13 +18,13 @@ pub trait Part: Drop {
 
     /// Reads it.
     fn read(alloc: Global, words: &[Seen]) -> Reading<'_, Self>
-        ensures { Gives result (reading words.now) };
+        ensures { ReadsAs result (reading words.now) };
 }
 
 /// One part or more, with commas between them.
 #[tactic(auto, unfolding(crate::specs::Steps::list_at))]
 pub fn list<P: Part>(alloc: Global, words: &[Seen]) -> Reading<'_, List<P>>
-    ensures { Gives result (list_at P.reading words.now) }
+    ensures { ReadsAs result (list_at P.reading words.now) }
 {
     let (first, rest) = P::read(alloc, words)?;
     let mut parts = List::new(alloc);
@@ -34,7 +34,7 @@ pub fn list<P: Part>(alloc: Global, words: &[Seen]) -> Reading<'_, List<P>>
 
 // The parts so far, and all parts behind a comma that follow.
 fn more_parts<P: Part>(alloc: Global, parts: List<P>, words: &[Seen]) -> Reading<'_, List<P>>
-    ensures { Gives result (parts_behind parts (is_sign (codes ",")) P.reading words.now) }
+    ensures { ReadsAs result (parts_behind parts (is_sign (codes ",")) P.reading words.now) }
 {
     let mut parts = parts;
     let mut rest = words;

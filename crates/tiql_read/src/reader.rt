@@ -1,4 +1,4 @@
-//! Reads the text of a query.
+//! Parses the text of a query.
 ghost use Rattle.std.specs.Prelude.{◌≡◌, ◌≢◌, ◌-◌, ◌^◌, ◌<◌, ◌≤◌, length, map, All, IfOk};
 ghost use Rattle.base_kit.specs.declared.place.Place.{Place};
 ghost use Rattle.tiql_tree.specs.declared.tree.Tree.{Tree};
@@ -14,14 +14,14 @@ use thiserror::Error;
 use tiql_lex::{Lexed, Token, tokens};
 use tiql_tree::Tree;
 
-/// Why no query was read.
+/// Why a text was not parsed as a query.
 #[derive(Clone, Copy, Debug, PartialEq, Eq, Error)]
 pub enum ReadFault {
-    /// The bytes are no query (docs/LANGUAGE.md, "Grammar"); the place is that of the first token with which the tokens so
-    /// far begin none.
+    /// A syntax error (docs/LANGUAGE.md, "Grammar"); the place is that of the first token with which the tokens so far begin no
+    /// query.
     #[error("not a query, from line {} and column {} on", .0.line, .0.column)]
     Syntax(Place),
-    /// There was not enough memory.
+    /// Out of memory.
     #[error("out of memory")]
     Memory,
 }
@@ -66,7 +66,7 @@ fn place_of(lexed: &Lexed, left: usize) -> Place
     tokens[tokens.len() - left].place
 }
 
-/// The tree of a query's text, of fewer than 2^32 - 1 bytes (docs/LANGUAGE.md, "Grammar").
+/// Parses the text of a query, of fewer than 2^32 - 1 bytes (docs/LANGUAGE.md, "Grammar").
 pub fn read_query(alloc: Global, bytes: &[u8]) -> Result<Tree, ReadFault>
     requires { length bytes.now < 2 ^ 32 - 1 }
     ensures tree { IfOk result (λ tree. Spelled bytes.now tree) }
@@ -84,6 +84,3 @@ pub fn read_query(alloc: Global, bytes: &[u8]) -> Result<Tree, ReadFault>
         Err(Stop::Memory) => Err(ReadFault::Memory),
     }
 }
-
-#[cfg(test)]
-mod tests;

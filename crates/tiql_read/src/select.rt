@@ -1,11 +1,10 @@
 //! Reads the selects of a view.
 ghost use Rattle.std.specs.Prelude.{◌≡◌, IfOk};
-ghost use Rattle.tiql_read.specs.Outcomes.{Gives};
+ghost use Rattle.tiql_read.specs.Outcomes.{ReadsAs};
 ghost use Rattle.tiql_read.specs.Selects as spec;
 
 use crate::column::column;
-use crate::condition::condition;
-use crate::expression::MOST_NESTED;
+use crate::condition::whole_condition;
 use crate::item::alias;
 use crate::leaf::{begins_key, key, mark_key, name};
 use crate::list::{Part, list};
@@ -17,7 +16,7 @@ use tiql_tree::{Spot, TreeCond, TreeRef, TreeSelect, TreeSource};
 // A name behind AS, where AS stands here.
 #[tactic(auto, unfolding(crate::specs::Selects::alias_if))]
 fn alias_if(alloc: Global, words: &[Seen]) -> Reading<'_, Option<Spot>>
-    ensures { Gives result (spec.alias_if words.now) }
+    ensures { ReadsAs result (spec.alias_if words.now) }
 {
     if !begins_key(words, b"AS") {
         return Ok((None, words));
@@ -66,20 +65,20 @@ impl Part for TreeRef {
 /// A condition behind WHERE, where WHERE stands here.
 #[tactic(auto, unfolding(crate::specs::Selects::filter_at))]
 pub fn filter(alloc: Global, words: &[Seen]) -> Reading<'_, Option<TreeCond>>
-    ensures { Gives result (spec.filter_at words.now) }
+    ensures { ReadsAs result (spec.filter_at words.now) }
 {
     if !begins_key(words, b"WHERE") {
         return Ok((None, words));
     }
     let rest = key(words, b"WHERE")?;
-    let (filter, rest) = condition(alloc, MOST_NESTED, rest)?;
+    let (filter, rest) = whole_condition(alloc, rest)?;
     Ok((Some(filter), rest))
 }
 
 // The columns behind GROUP BY, where it stands here.
 #[tactic(auto, unfolding(crate::specs::Selects::group_at))]
 fn group(alloc: Global, words: &[Seen]) -> Reading<'_, List<TreeRef>>
-    ensures { Gives result (spec.group_at words.now) }
+    ensures { ReadsAs result (spec.group_at words.now) }
 {
     if !begins_key(words, b"GROUP") {
         return Ok((List::new(alloc), words));
@@ -92,7 +91,7 @@ fn group(alloc: Global, words: &[Seen]) -> Reading<'_, List<TreeRef>>
 // Whether DISTINCT stands here.
 #[tactic(auto, unfolding(crate::specs::Selects::distinct_at))]
 fn distinct(words: &[Seen]) -> Reading<'_, bool>
-    ensures { Gives result (spec.distinct_at words.now) }
+    ensures { ReadsAs result (spec.distinct_at words.now) }
 {
     if !begins_key(words, b"DISTINCT") {
         return Ok((false, words));
@@ -104,7 +103,7 @@ fn distinct(words: &[Seen]) -> Reading<'_, bool>
 /// A select.
 #[tactic(auto, unfolding(crate::specs::Selects::select_at))]
 pub fn select(alloc: Global, words: &[Seen]) -> Reading<'_, TreeSelect>
-    ensures { Gives result (spec.select_at words.now) }
+    ensures { ReadsAs result (spec.select_at words.now) }
 {
     let (place, rest) = mark_key(words, b"SELECT")?;
     let (distinct, rest) = distinct(rest)?;

@@ -1,6 +1,6 @@
 //! Reads whole queries.
 ghost use Rattle.std.specs.Prelude.{◌≡◌};
-ghost use Rattle.tiql_read.specs.Outcomes.{Gives, GivesAll};
+ghost use Rattle.tiql_read.specs.Outcomes.{ReadsAs, ReadsAllAs};
 ghost use Rattle.tiql_read.specs.Steps.{begins, take_as, many_at};
 ghost use Rattle.tiql_read.specs.Queries as spec;
 
@@ -30,7 +30,7 @@ fn begins_declaration(words: &[Seen]) -> bool
 
 // All declarations that follow.
 fn declarations(alloc: Global, words: &[Seen]) -> Reading<'_, List<Decl>>
-    ensures { Gives result (many_at spec.declares spec.decl_at words.now) }
+    ensures { ReadsAs result (many_at spec.declares spec.decl_at words.now) }
 {
     let mut decls = List::new(alloc);
     let mut rest = words;
@@ -63,7 +63,7 @@ fn aim_of(seen: &Seen) -> Option<bool>
 // MAXIMIZE or MINIMIZE.
 #[tactic(auto, unfolding(crate::specs::Steps::take_as))]
 fn aim(words: &[Seen]) -> Reading<'_, bool>
-    ensures { Gives result (take_as spec.aim_of words.now) }
+    ensures { ReadsAs result (take_as spec.aim_of words.now) }
 {
     let [first, rest @ ..] = words else {
         return Err(Stop::Wrong(0));
@@ -74,7 +74,7 @@ fn aim(words: &[Seen]) -> Reading<'_, bool>
 // That any world will do.
 #[tactic(auto, unfolding(crate::specs::Queries::find_at))]
 fn find(words: &[Seen]) -> Reading<'_, TreeGoal>
-    ensures { Gives result (spec.find_at words.now) }
+    ensures { ReadsAs result (spec.find_at words.now) }
 {
     let rest = key(words, b"FIND")?;
     let rest = sign(rest, b";")?;
@@ -84,7 +84,7 @@ fn find(words: &[Seen]) -> Reading<'_, TreeGoal>
 // The greatest or least sum.
 #[tactic(auto, unfolding(crate::specs::Queries::sum_goal_at))]
 fn sum_goal(alloc: Global, words: &[Seen]) -> Reading<'_, TreeGoal>
-    ensures { Gives result (spec.sum_goal_at words.now) }
+    ensures { ReadsAs result (spec.sum_goal_at words.now) }
 {
     let (maximize, rest) = aim(words)?;
     let rest = key(rest, b"SUM")?;
@@ -103,7 +103,7 @@ fn sum_goal(alloc: Global, words: &[Seen]) -> Reading<'_, TreeGoal>
 // The goal.
 #[tactic(auto, unfolding(crate::specs::Queries::goal_at))]
 fn goal(alloc: Global, words: &[Seen]) -> Reading<'_, TreeGoal>
-    ensures { Gives result (spec.goal_at words.now) }
+    ensures { ReadsAs result (spec.goal_at words.now) }
 {
     if begins_key(words, b"FIND") {
         find(words)
@@ -115,7 +115,7 @@ fn goal(alloc: Global, words: &[Seen]) -> Reading<'_, TreeGoal>
 /// The tree of a query's words.
 #[tactic(auto, unfolding(crate::specs::Queries::query_at))]
 pub fn query(alloc: Global, words: &[Seen]) -> Result<Tree, Stop>
-    ensures { GivesAll result (spec.query_at words.now) }
+    ensures { ReadsAllAs result (spec.query_at words.now) }
 {
     let (decls, rest) = declarations(alloc, words)?;
     let (goal, rest) = goal(alloc, rest)?;

@@ -31,7 +31,7 @@ pub enum Aggregate {
 pub enum Stop {
     /// The first wrong word is the one from which on so many words are left.
     Wrong(usize),
-    /// There was not enough memory.
+    /// Out of memory.
     Memory,
 }
 

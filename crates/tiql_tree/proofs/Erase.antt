@@ -72,10 +72,6 @@ same_made = ind-TreeExpr IsSameForm IsSame IsSameSigned
     (λ x y is. subst (λ z. IsSame (roll-TreeExpr z)) is (at_place y.place y.form.0 y.form.1))
     (λ x y is. subst (λ z. IsSameSigned (roll-TreeSigned z)) is (signed_layer y.minus y.part.0 y.part.1))
 
--- trees that are the same, places aside, are printed alike
-pub made_alike : (a b : TreeExpr) → expr_only a ≡ expr_only b → expr_made a ≡ expr_made b
-made_alike a b same = same_made a ∙ ap expr_made same ∙ sym (same_made b)
-
 abbrev IsSameCond : TreeCond → Type 0
 IsSameCond c = cond_made c ≡ cond_made (cond_only c)
 
@@ -99,6 +95,3 @@ cond_layer (TreeCond-F.Or ys) = made-Or _ _ refl ∙ ap (λ (l : List CondMade).
 
 pub same_cond_made : (c : TreeCond) → cond_made c ≡ cond_made (cond_only c)
 same_cond_made = ind-TreeCond IsSameCond (λ x y is. subst (λ z. IsSameCond (roll-TreeCond z)) is (cond_layer y))
-
-pub cond_made_alike : (a b : TreeCond) → cond_only a ≡ cond_only b → cond_made a ≡ cond_made b
-cond_made_alike a b same = same_cond_made a ∙ ap cond_made same ∙ sym (same_cond_made b)

@@ -14,7 +14,7 @@ use Rattle.tiql_lex.specs.declared.token.TokenKind.{TokenKind}
 use Rattle.tiql_lex.specs.declared.token.TokenKind.TheVariants.{Name, Keyword, Number, Text, Sign}
 use Rattle.tiql_lex.specs.declared.token.Lexed.{Lexed}
 use Rattle.tiql_lex.specs.Kinds.{doubled, kind_of, Fits, IsText}
-use Rattle.tiql_lex.specs.Lexed.{Stands, AreTokens, end_of, IsStop, IsLexed}
+use Rattle.tiql_lex.specs.Lexed.{Stands, AreTokens, end_of, IsLexicalStop, IsLexed}
 use Rattle.tiql_lex.specs.Lexemes.{is_white, begins_with, behind_blanks, is_sign, is_pair, is_sign_text, goes_on_text, is_lexeme, IsFirstLexeme}
 use Rattle.tiql_lex.specs.Places.{mark_size, place_at}
 use Rattle.tiql_lex.proofs.Lexing.{head_passes, tail_passes}
@@ -174,7 +174,7 @@ tokens_at bytes i (w ∷ ws) = record { kind = w.kind; place = place_at bytes i;
 -- the rest of the bytes is these words, and nothing else
 pub record Rest (bytes : List ℕ) (last : ℕ) (tokens : List Token) (ws : List Word) : Type 0 where
   pub are : AreTokens bytes last tokens
-  pub ends : IsStop bytes (end_of last tokens) None
+  pub ends : IsLexicalStop bytes (end_of last tokens) None
   pub same : words_of bytes tokens ≡ ws
 
 no_rest : (bytes front : List ℕ) (last : ℕ) → bytes ≡ front ++ [] → last ≤ length front → behind_blanks false (drop last bytes) ≡ [] → Rest bytes last [] []
@@ -268,7 +268,7 @@ written_again ws good =
       record { tokens = tokens_at bytes 0 ws; stop = None; end = place_at bytes (length bytes) },
       record {
         tokens = subst (λ n. AreTokens bytes n (tokens_at bytes 0 ws)) (sym start) rest.are;
-        stop = subst (λ n. IsStop bytes (end_of n (tokens_at bytes 0 ws)) None) (sym start) rest.ends;
+        stop = subst (λ n. IsLexicalStop bytes (end_of n (tokens_at bytes 0 ws)) None) (sym start) rest.ends;
         end = refl;
       },
       refl,

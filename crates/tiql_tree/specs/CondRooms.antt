@@ -9,11 +9,13 @@ use Rattle.tiql_tree.specs.Grammar.{cmp_text, cond_words, conj_words, unit_words
 use Rattle.tiql_tree.specs.Printed.{written, CondMade, as_cond, as_conj, as_unit, or_made, and_made, expr_made}
 use Rattle.tiql_tree.specs.Rooms.{expr_bytes}
 
+-- an OR may stand there without brackets
 abbrev pub takes_or : CondRoom → Bool
 takes_or room.Or = true
 takes_or room.And = false
 takes_or room.Unit = false
 
+-- an AND may stand there without brackets
 abbrev pub takes_and : CondRoom → Bool
 takes_and room.Or = true
 takes_and room.And = true
@@ -25,6 +27,7 @@ cond_bytes room.Or made = written (cond_words (as_cond made))
 cond_bytes room.And made = written (conj_words (as_conj made))
 cond_bytes room.Unit made = written (unit_words (as_unit made))
 
+-- two expressions with the sign of their comparison between them
 abbrev pub compare_bytes : TreeCmp → TreeExpr → TreeExpr → List ℕ
 compare_bytes cmp one other =
     expr_bytes expr_room.Sum (expr_made one) ++ (cmp_text cmp ++ 32 ∷ []) ++ expr_bytes expr_room.Sum (expr_made other)
@@ -33,6 +36,7 @@ compare_bytes cmp one other =
 unfoldable pub or_bytes : List CondMade → List ℕ
 or_bytes parts = written (cond_words (or_made parts))
 
+-- the parts of an AND
 unfoldable pub and_bytes : List CondMade → List ℕ
 and_bytes parts = written (conj_words (and_made parts))
 
@@ -40,5 +44,6 @@ and_bytes parts = written (conj_words (and_made parts))
 abbrev pub or_part : CondMade → List ℕ
 or_part part = codes "OR " ++ cond_bytes room.And part
 
+-- a part of an AND behind the first one
 abbrev pub and_part : CondMade → List ℕ
 and_part part = codes "AND " ++ cond_bytes room.Unit part

@@ -5,11 +5,13 @@ use Rattle.tiql_tree.specs.declared.write_expression.Room.TheVariants as room
 use Rattle.tiql_tree.specs.Grammar.{expr_words, term_words, factor_words}
 use Rattle.tiql_tree.specs.Printed.{written, ExprMade, SignedMade, as_expr, as_term, as_factor, sum_made, product_made}
 
+-- a sum may stand there without parentheses
 abbrev pub takes_sum : Room → Bool
 takes_sum room.Sum = true
 takes_sum room.Product = false
 takes_sum room.Factor = false
 
+-- a product may stand there without parentheses
 abbrev pub takes_product : Room → Bool
 takes_product room.Sum = true
 takes_product room.Product = true
@@ -29,6 +31,7 @@ sum_bytes parts = written (expr_words (sum_made parts))
 unfoldable pub product_bytes : List ExprMade → List ℕ
 product_bytes parts = written (term_words (product_made parts))
 
+-- the sign before a part of a sum
 abbrev pub plus_or_minus : Bool → List ℕ
 plus_or_minus minus = if minus then codes "- " else codes "+ "
 

@@ -17,6 +17,7 @@ use Rattle.tiql_tree.specs.Trees.{Places, place, query_tree}
 abbrev pub words_of : List ℕ → List Token → List Word
 words_of bytes tokens = map (λ token. record { kind = token.kind; text = text_of bytes token }) tokens
 
+-- the places of tokens
 abbrev pub places_of : List Token → Places
 places_of tokens = map (λ token. token.place) tokens
 

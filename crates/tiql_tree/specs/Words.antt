@@ -14,12 +14,15 @@ pub record Word : Type 0 where
 abbrev pub key : List ℕ → Word
 key text = record { kind = Keyword; text = text }
 
+-- a sign
 abbrev pub sign : List ℕ → Word
 sign text = record { kind = Sign; text = text }
 
+-- a name
 abbrev pub named : List ℕ → Word
 named name = record { kind = Name; text = name }
 
+-- a number, by its digits
 abbrev pub digits : List ℕ → Word
 digits text = record { kind = Number; text = text }
 
@@ -32,6 +35,7 @@ pub record Several (A : Type 0) : Type 0 where
   pub first : A
   pub more : List A
 
+-- all parts as a list
 abbrev pub parts_of : {A : Type 0} → Several A → List A
 parts_of parts = parts.first ∷ parts.more
 

@@ -15,9 +15,9 @@ use crate::write_select::{put_filter, put_view};
 use base_kit::{List, Memory, Place};
 use std::alloc::Global;
 
-/// The text of a tree that some text spells, places aside: it spells that tree (docs/LANGUAGE.md, "Printing"). Each
-/// declaration and the goal is one line, one space stands between two tokens, signs group only where a part would else be
-/// read otherwise, and AS stands after every item and every source.
+/// Prints a tree that some text spells, places aside; the printed text spells that tree (docs/LANGUAGE.md, "Printing"). Each
+/// declaration and the goal is one line, with one space between two tokens, parentheses and square brackets only where they
+/// are needed, and AS after every item and every source.
 pub fn print_tree(alloc: Global, tree: &Tree) -> Result<List<u8>, Memory>
     requires { HasText tree.now }
     ensures layout { IfOk result (λ text. text ≡ printed tree.now) }
@@ -242,94 +242,5 @@ fn aim(maximize: bool) -> &'static [u8]
         b"MAXIMIZE SUM ( "
     } else {
         b"MINIMIZE SUM ( "
-    }
-}
-
-#[cfg(test)]
-mod tests {
-    use super::*;
-    use crate::expression::{TreeExpr, TreeForm, TreeRef, TreeSigned};
-    use base_kit::{Boxed, Name};
-    use std::process::Abort;
-    use std::test::Fail;
-
-    const HERE: Place = Place { line: 1, column: 1 };
-
-    fn number(value: i64) -> TreeExpr {
-        TreeExpr {
-            place: HERE,
-            form: TreeForm::Number(value),
-        }
-    }
-
-    fn column(alloc: Global, name: &str) -> Result<TreeExpr, Fail> {
-        let column = TreeRef {
-            place: HERE,
-            relation: None,
-            column: Name::new(alloc, name)?,
-        };
-        Ok(TreeExpr {
-            place: HERE,
-            form: TreeForm::Ref(column),
-        })
-    }
-
-    // (a - 1) * -2
-    fn product(alloc: Global) -> Result<TreeExpr, Fail> {
-        let mut parts = List::new(alloc);
-        parts.push(TreeSigned {
-            minus: false,
-            part: column(alloc, "a")?,
-        })?;
-        parts.push(TreeSigned {
-            minus: true,
-            part: number(1),
-        })?;
-        let mut factors = List::new(alloc);
-        factors.push(TreeExpr {
-            place: HERE,
-            form: TreeForm::Sum(parts),
-        })?;
-        factors.push(TreeExpr {
-            place: HERE,
-            form: TreeForm::Neg(Boxed::new(alloc, number(2))?),
-        })?;
-        Ok(TreeExpr {
-            place: HERE,
-            form: TreeForm::Product(factors),
-        })
-    }
-
-    fn assert_text(rt: &impl Abort, text: &List<u8>, expected: &str) {
-        assert!(rt; text.as_slice() == expected.as_bytes());
-    }
-
-    #[test]
-    fn it_groups_a_sum_in_a_product(rt: HostRuntime) -> Result<(), Fail> {
-        let tree = Tree {
-            decls: List::new(rt.alloc()),
-            goal: TreeGoal::Sum {
-                maximize: true,
-                part: product(rt.alloc())?,
-                relation: Spot {
-                    name: Name::new(rt.alloc(), "h")?,
-                    place: HERE,
-                },
-            },
-        };
-        let text = tree_bytes(rt.alloc(), &tree)?;
-        assert_text(&rt, &text, "MAXIMIZE SUM ( ( a - 1 ) * - 2 ) FROM h ;\n");
-        Ok(())
-    }
-
-    #[test]
-    fn it_prints_a_goal(rt: HostRuntime) -> Result<(), Fail> {
-        let tree = Tree {
-            decls: List::new(rt.alloc()),
-            goal: TreeGoal::Find,
-        };
-        let text = print_tree(rt.alloc(), &tree)?;
-        assert_text(&rt, &text, "FIND ;\n");
-        Ok(())
     }
 }

@@ -1,4 +1,4 @@
-//! A query as it is written.
+//! The tree of a query as it is written.
 
 use crate::condition::TreeCond;
 use crate::expression::{TreeExpr, TreeRef};
@@ -138,7 +138,7 @@ pub enum TreeRequire {
     None(Spot),
 }
 
-/// What a world is to be good for.
+/// The goal of a query.
 #[derive(Debug, Drop)]
 pub enum TreeGoal {
     /// FIND: any world will do.

@@ -1,7 +1,7 @@
 use Rattle.std.proofs.Common.{codes, sym, ◌∙◌, refl, subst, rules, arith}
 use Rattle.tiql_tree.specs.declared.condition.TreeCond.TheViews.{And, Or}
 use Rattle.tiql_read.specs.Steps.{next_at, is_key}
-use Rattle.tiql_read.specs.Outcomes.{Gives}
+use Rattle.tiql_read.specs.Outcomes.{ReadsAs}
 use Rattle.tiql_read.specs.Conditions.{and_by, or_by, unit_at, and_of, or_of}
 use Rattle.tiql_read.proofs.Loops.{left_init, left_end, next_left_on, next_left_stop, next_left_gives}
 use Rattle.tiql_read.proofs.Nested.{unit_compared, unit_wrong, unit_opened, followed_none, followed_wrong, followed_some}
@@ -9,14 +9,14 @@ use Rattle.tiql_read.proofs.condition.+hold.Goals as goal
 
 pub unit-returns-then-not-begins_opening : goal.unit-returns-then-not-begins_opening
 unit-returns-then-not-begins_opening t c =
-    subst (λ r. Gives c.compared.result r) (sym (unit_compared c.args.room c.args.words.now (cc))) c.compared.ensures
+    subst (λ r. ReadsAs c.compared.result r) (sym (unit_compared c.args.room c.args.words.now (cc))) c.compared.ensures
 
 pub unit-returns-then-room-eq0 : goal.unit-returns-then-room-eq0
 unit-returns-then-room-eq0 t c = λ left e. unit_wrong c.args.room c.args.words.now (cc) (search rules) ∙ (cc)
 
 pub unit-returns : goal.unit-returns
 unit-returns t c =
-    subst (λ r. Gives c.opened.result r) (sym (unit_opened c.args.room c.args.words.now (cc) (search rules))) c.opened.ensures
+    subst (λ r. ReadsAs c.opened.result r) (sym (unit_opened c.args.room c.args.words.now (cc) (search rules))) c.opened.ensures
 
 pub more_alternatives-loop-init : goal.more_alternatives-loop-init
 more_alternatives-loop-init t c = left_init _ _ c.args.parts c.args.words.now

@@ -2,7 +2,7 @@ use Rattle.std.proofs.Common.{codes, false, sym, ◌∙◌, refl, subst, rules, 
 use Rattle.tiql_tree.specs.declared.expression.TreeForm.TheViews.{Sum, Product}
 use Rattle.tiql_tree.specs.Trees.{expr_at, signed}
 use Rattle.tiql_read.specs.Steps.{next_at, is_sign}
-use Rattle.tiql_read.specs.Outcomes.{Gives}
+use Rattle.tiql_read.specs.Outcomes.{ReadsAs}
 use Rattle.tiql_read.specs.Expressions.{place_of, adds, signed_by, term_by, sum_by, factor_at, product_of, sum_of}
 use Rattle.tiql_read.proofs.Loops.{left_init, left_on, left_stop, left_end, left_gives, next_left_on, next_left_stop, next_left_gives}
 use Rattle.tiql_read.proofs.Nested.{factor_simple, factor_wrong, factor_opened, followed_none, followed_wrong, followed_some}
@@ -10,14 +10,14 @@ use Rattle.tiql_read.proofs.expression.+read.Goals as goal
 
 pub factor-returns-then-not-begins_opening : goal.factor-returns-then-not-begins_opening
 factor-returns-then-not-begins_opening t c =
-    subst (λ r. Gives c.simple.result r) (sym (factor_simple c.args.room c.args.words.now (cc))) c.simple.ensures
+    subst (λ r. ReadsAs c.simple.result r) (sym (factor_simple c.args.room c.args.words.now (cc))) c.simple.ensures
 
 pub factor-returns-then-room-eq0 : goal.factor-returns-then-room-eq0
 factor-returns-then-room-eq0 t c = λ left e. factor_wrong c.args.room c.args.words.now (cc) (search rules) ∙ (cc)
 
 pub factor-returns : goal.factor-returns
 factor-returns t c =
-    subst (λ r. Gives c.opened.result r) (sym (factor_opened c.args.room c.args.words.now (cc) (search rules))) c.opened.ensures
+    subst (λ r. ReadsAs c.opened.result r) (sym (factor_opened c.args.room c.args.words.now (cc) (search rules))) c.opened.ensures
 
 pub more_factors-loop-init : goal.more_factors-loop-init
 more_factors-loop-init t c = left_init _ _ c.args.parts c.args.words.now

@@ -1,9 +1,10 @@
-//! Tokens of texts that a person worked out.
-use crate::{Lexed, TokenKind, number_value, text_value, tokens};
-use base_kit::Place;
+//! Tokens, their places and values.
+
+use base_kit::{Duplicate, Place};
 use std::alloc::Global;
 use std::process::Abort;
 use std::test::Fail;
+use tiql_lex::{Lexed, TokenKind, number_value, text_value, tokens};
 
 fn assert_place(rt: &impl Abort, place: Place, line: u32, column: u32) {
     assert_eq!(rt; place.line, line);
@@ -50,6 +51,7 @@ fn each_kind_has_its_span(rt: HostRuntime) -> Result<(), Fail> {
     assert_token(&rt, &lexed, 6, TokenKind::Sign, (30, 32));
     assert!(rt; lexed.stop.is_none());
     assert_place(&rt, lexed.end, 2, 16);
+    assert_eq!(rt; lexed.copy(rt.alloc())?.tokens.len(), 7);
     Ok(())
 }
 

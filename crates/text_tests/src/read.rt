@@ -1,6 +1,10 @@
-use super::*;
+//! A query with each kind of declaration, and where texts stop that are no query.
+
+use base_kit::Place;
+use std::alloc::Global;
 use std::process::Abort;
 use std::test::Fail;
+use tiql_read::{ReadFault, read_query};
 use tiql_tree::{Decl, TreeForm, TreeGoal, TreeHypo, TreeView};
 
 const QUERY: &[u8] =
@@ -68,7 +72,6 @@ fn assert_stops(rt: &impl Abort, alloc: Global, text: &[u8], place: Place) {
 #[test]
 fn tells_where_a_text_stops(rt: HostRuntime) {
     assert_stops(&rt, rt.alloc(), b"", at(1, 1));
-    assert_stops(&rt, rt.alloc(), b"FIND\n", at(2, 1));
     assert_stops(&rt, rt.alloc(), b"TABLE t (a INT); FIND; FIND;", at(1, 24));
     assert_stops(&rt, rt.alloc(), b"FIND; 'x", at(1, 7));
     assert_stops(
@@ -80,35 +83,7 @@ fn tells_where_a_text_stops(rt: HostRuntime) {
     assert_stops(
         &rt,
         rt.alloc(),
-        b"VIEW v AS SELECT a FROM t UNION SELECT a FROM t; FIND;",
-        at(1, 33),
-    );
-    assert_stops(
-        &rt,
-        rt.alloc(),
         b"MINIMIZE SUM(a -- b\n+ #) FROM t;",
         at(2, 3),
     );
-}
-
-// A goal whose sum stands behind so many minus signs.
-fn negated(alloc: Global, count: usize) -> Result<Vec<u8>, Memory> {
-    let mut text = Vec::new(alloc);
-    text.extend_from_slice(b"MINIMIZE SUM(")?;
-    for _ in 0..count {
-        text.extend_from_slice(b"- ")?;
-    }
-    text.extend_from_slice(b"a) FROM t;")?;
-    Ok(text)
-}
-
-#[test]
-fn reads_up_to_64_signs_that_open(rt: HostRuntime) -> Result<(), Fail> {
-    let text = negated(rt.alloc(), 63)?;
-    assert!(rt; text.len() < 1000);
-    let tree = read_query(rt.alloc(), text.as_slice())?;
-    assert_eq!(rt; tree.decls.len(), 0);
-    let text = negated(rt.alloc(), 64)?;
-    assert_stops(&rt, rt.alloc(), text.as_slice(), at(1, 140));
-    Ok(())
 }

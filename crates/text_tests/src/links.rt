@@ -1,4 +1,6 @@
-use super::*;
+//! A row that is unlinked and linked again.
+
+use cross_links::{Entry, Grid, GridWalk};
 use std::alloc::{AllocError, Global};
 use std::test::Fail;
 

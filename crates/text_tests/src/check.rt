@@ -1,10 +1,10 @@
-//! The smallest sound query, and two that are refused; the rows of every rule run on the whole
-//! program.
-use crate::{SoundFault, check};
+//! The smallest sound query, and two that are refused; the rows of every rule run on the whole program.
+
 use base_kit::{List, Name, Place};
 use std::alloc::Global;
 use std::process::Abort;
 use std::test::Fail;
+use tiql_check::{SoundFault, check};
 use tiql_query::Aim;
 use tiql_tree::{Decl, Spot, Tree, TreeExpr, TreeForm, TreeGoal, TreeHypo};
 
