@@ -5,7 +5,7 @@ use Rattle.std.proofs.lemmas.Bool.Decides.{Decides-eqb}
 use Rattle.std.proofs.lemmas.List.{get_or_append_left, get_or_push, get_or-set_same, get_or-set_other, get_or-replicate, length-replicate}
 use Rattle.base_kit.specs.declared.value.Value.{Value}
 use Rattle.tables_csv.specs.Hashes.{hash_of}
-use Rattle.tables_csv.specs.Keys.{key_at}
+use Rattle.tiql_query.specs.Keys.{key_at}
 use Rattle.tables_csv.specs.Chains.{last_before, AreLinked, Linked, Seeking}
 
 -- what is true of the last place below k of a chain

@@ -1,13 +1,12 @@
 -- the keys of rows: their hashes, their comparison, and one more row among them
-use Rattle.std.proofs.Common.{◌≡◌, ◌≢◌, ◌∙◌, ◌+◌, ◌<◌, ◌≤◌, ◌++◌, ℕ, zero, suc, List, [], ◌∷◌, Option, ap, refl, sym, subst, inl, inr, arith, length, length-append, get_or, take, map, slice_index}
+use Rattle.std.proofs.Common.{◌≡◌, ◌≢◌, ◌∙◌, ◌+◌, ◌<◌, ◌≤◌, ◌++◌, ℕ, zero, suc, List, [], ◌∷◌, Option, ap, refl, sym, inl, inr, arith, length, length-append, get_or, take, map}
 use Rattle.std.proofs.lemmas.Bool.{cases_lt}
 use Rattle.std.proofs.lemmas.List.{get_or_append_left, get_or_push, get_or_read, map-append, take_all, take_more}
 use Rattle.std.proofs.lemmas.List.Sums.{fold-append}
 use Rattle.std.specs.Prelude.{fold, slice_get}
 use Rattle.base_kit.specs.declared.value.Value.{Value}
-use Rattle.tables_csv.specs.Chains.{AreLinked, Linked, Sought}
 use Rattle.tables_csv.specs.Hashes.{hash_of, mixed_entry}
-use Rattle.tables_csv.specs.Keys.{HasKeyOf, HasNewKey, HaveDistinctKeys, key_at, key_of}
+use Rattle.tiql_query.specs.Keys.{HasNewKey, HaveDistinctKeys, key_at, key_of}
 
 -- one more column of the key
 pub key_more : (key : List ℕ) (row : List Value) (i : ℕ) → i < length key → key_of (take (i + 1) key) row ≡ key_of (take i key) row ++ slice_get row (get_or key i 0) ∷ []
@@ -72,33 +71,3 @@ distinct_more key rows row distinct new some i j less below =
           let last : length rows ≡ j = omega arith in
           λ same. new some i (omega arith) (sym (old_key key rows row i (omega arith)) ∙ same ∙ last_key key rows row j last)
     ]
-
-linked_more : (key : List ℕ) (rows : List (List Value)) (row : List Value) (hashes links hashes' links' heads' : List ℕ) (hash : ℕ) → length hashes ≡ length rows
-    → ((i : ℕ) → i < length rows → slice_index hashes i ≡ hash_of (key_at key rows i)) → hash ≡ hash_of (key_of key row) → hashes' ≡ hashes ++ hash ∷ []
-    → length links' ≡ length hashes + 1 → Linked (length hashes + 1) hashes' links' heads' → AreLinked key (rows ++ row ∷ []) hashes' links' heads'
-linked_more key rows row hashes links hashes' links' heads' hash size hashed hash_is hashes_are links_size linked =
-    let more : length (rows ++ row ∷ []) ≡ length rows + 1 = length-append rows (row ∷ []) in
-    let longer : length hashes' ≡ length hashes + 1 = ap length hashes_are ∙ length-append hashes (hash ∷ []) in
-    let count : length hashes + 1 ≡ length (rows ++ row ∷ []) = omega arith in
-    record {
-      hashes_size = omega arith;
-      links_size = omega arith;
-      hashed = λ i below. rw hashes_are (elim (cases_lt i (length rows)) as (λ _. get_or (hashes ++ hash ∷ []) i 0 ≡ hash_of (key_at key (rows ++ row ∷ []) i)) [
-        | inl within ↦
-            get_or_append_left hashes (hash ∷ []) 0 i (omega arith) ∙ hashed i within ∙ ap hash_of (sym (old_key key rows row i within))
-        | inr past ↦
-            let last : length rows ≡ i = omega arith in
-            get_or_push hashes hash 0 i (size ∙ last) ∙ hash_is ∙ ap hash_of (sym (last_key key rows row i last))
-      ]);
-      linked = subst (λ (n : ℕ). Linked n hashes' links' heads') count linked;
-    }
-
--- the chains with one more row, behind those of the rows
-pub keys_more : (key : List ℕ) (rows : List (List Value)) (row : List Value) (hashes links heads hashes' links' heads' : List ℕ) (hash : ℕ)
-    → AreLinked key rows hashes links heads → hash ≡ hash_of (key_of key row) → hashes' ≡ hashes ++ hash ∷ [] → length links' ≡ length hashes + 1
-    → Linked (length hashes + 1) hashes' links' heads' → AreLinked key (rows ++ row ∷ []) hashes' links' heads'
-keys_more key rows row hashes links heads hashes' links' heads' hash are = linked_more key rows row hashes links hashes' links' heads' hash are.hashes_size are.hashed
-
--- what a search says
-pub key_found : (key : List ℕ) (rows : List (List Value)) (row : List Value) (link : ℕ) → Sought key rows (key_of key row) link → 0 < length key → 0 < link → HasKeyOf key rows row link
-key_found key rows row link sought some first = record { some = some; first = first; within = sought.within; same = sought.found first }

@@ -7,7 +7,6 @@ pub mod Numerals
 pub mod Outcomes
 mod Passing
 pub mod Plain
-pub mod QueryTables
 pub mod Readings
 mod Refusals
 mod TableRows

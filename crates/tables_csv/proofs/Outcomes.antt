@@ -17,7 +17,7 @@ use Rattle.tables_csv.proofs.Readings.{records_more, records_one}
 use Rattle.tables_csv.proofs.Refusals.{given_one, no_fault_inside, record_fault_one, values_count}
 use Rattle.tables_csv.specs.Values.{AreValues, IsValue}
 use Rattle.tables_csv.specs.WholeTables.{BeginsWith, FaultsInRecord, IsFirstFault, IsRecordFault, IsTableOf, is_marked, names_of, without_mark}
-use Rattle.tables_csv.specs.WholeTexts.{AreRowsOf, IsOfColumn}
+use Rattle.tiql_query.specs.Rows.{AreRowsOf, IsOfColumn}
 
 same_tail : {A : Type 0} (x y : A) (xs ys : List A) → x ∷ xs ≡ y ∷ ys → xs ≡ ys
 same_tail x y xs ys e = cc

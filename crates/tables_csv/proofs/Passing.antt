@@ -1,5 +1,6 @@
 -- the records that a reader goes past
-use Rattle.std.proofs.Common.{◌≡◌, ◌∙◌, ◌++◌, ℕ, Bool, true, false, List, [], ◌∷◌, Option, Some, Bor, ap, refl, subst, sym, inl}
+use Rattle.std.proofs.Common.{◌≡◌, ◌∙◌, ◌++◌, ℕ, Bool, true, false, List, [], ◌∷◌, Some, Bor, ap, refl, subst, sym, inl}
+use Rattle.std.proofs.lemmas.Option.{same_Some}
 use Rattle.csv.proofs.ReadFacts.{reached-more, rows-end, rows-more}
 use Rattle.csv.specs.Machine.{Read, next_record}
 use Rattle.csv.specs.Reading.{Reached, ReadRecord, default_config, reader_state, took_first}
@@ -8,9 +9,6 @@ use Rattle.csv.specs.declared.reader.Reader.{Reader}
 use Rattle.tables_csv.proofs.Readings.{records_end, records_ended}
 use Rattle.tables_csv.specs.Passes.{LacksFirst, Passed, Passes, TakesHeader}
 use Rattle.tables_csv.specs.Records.{HasLeft, IsOpen, slice_bytes}
-
-pub same_some : {A : Type 0} (a b : A) → ◌≡◌ {A = Option A} (Some a) (Some b) → a ≡ b
-same_some a b e = cc
 
 -- what a read does to an open reader
 pub passes : (old new : Reader (Bor (List ℕ))) (found : Bool) (fields : List (List ℕ)) → IsOpen old → ReadRecord slice_bytes old new found fields
@@ -37,7 +35,7 @@ pub passed_more : (start old new : Reader (Bor (List ℕ))) (records : List (Lis
     → Passed start new (records ++ fields ∷ [])
 unfolding Reached
 passed_more start old new records fields front last =
-    let same : last.from ≡ front.to = same_some last.from front.to (sym last.source ∙ front.left) in
+    let same : last.from ≡ front.to = same_Some last.from front.to (sym last.source ∙ front.left) in
     let p = last.reached.0 in
     let here : next_record default_config (reader_state old) [] [] front.to ≡ Some p = ap (next_record default_config (reader_state old) [] []) (sym same) ∙ last.reached.1 in
     let whole = reached-more default_config (reader_state start) (reader_state old) front.from front.to records p front.reached here in
@@ -52,7 +50,7 @@ passed_more start old new records fields front last =
 -- no record is left
 pub passed_all : (start old : Reader (Bor (List ℕ))) (records : List (List (List ℕ))) → Passed start old records → HasLeft old [] → HasLeft start records
 passed_all start old records front left =
-    let same : left.bytes ≡ front.to = same_some left.bytes front.to (sym left.source ∙ front.left) in
+    let same : left.bytes ≡ front.to = same_Some left.bytes front.to (sym left.source ∙ front.left) in
     record {
       bytes = front.from;
       source = front.source;
@@ -70,14 +68,14 @@ other_record state after next from to rest fields names is also =
 
 pub lacks_other : (old new : Reader (Bor (List ℕ))) (fields names : List (List ℕ)) → Passed old new (fields ∷ []) → (fields ≡ names → ⊥) → LacksFirst old names
 lacks_other old new fields names passed other from source after rest reached =
-    let same : passed.from ≡ from = same_some passed.from from (sym passed.source ∙ source) in
+    let same : passed.from ≡ from = same_Some passed.from from (sym passed.source ∙ source) in
     other (other_record (reader_state old) (reader_state new) after from passed.to rest fields names
     (subst (λ (l : List ℕ). Reached default_config (reader_state old) l (fields ∷ []) (reader_state new) passed.to) same passed.reached) reached)
 
 pub lacks_all : (old : Reader (Bor (List ℕ))) (names : List (List ℕ)) → HasLeft old [] → LacksFirst old names
 unfolding Reached
 lacks_all old names left from source after rest reached =
-    let same : left.bytes ≡ from = same_some left.bytes from (sym left.source ∙ source) in
+    let same : left.bytes ≡ from = same_Some left.bytes from (sym left.source ∙ source) in
     let none = ap (next_record default_config (reader_state old) [] []) (sym same) ∙ records_ended default_config (reader_state old) left.bytes left.all in
     let some = reached.1 in
     cc

@@ -11,7 +11,7 @@ use Rattle.tiql_query.specs.declared.relation.Column.{Column}
 use Rattle.tiql_query.specs.declared.relation.QTable.{QTable}
 use Rattle.tables_csv.specs.declared.fault.TableFault.{TableFault}
 use Rattle.tables_csv.specs.declared.fault.TableFault.TheVariants as fault
-use Rattle.tables_csv.specs.Keys.{HasKeyOf, HaveDistinctKeys, key_at, key_of}
+use Rattle.tiql_query.specs.Keys.{HasKeyOf, HaveDistinctKeys, key_at, key_of}
 use Rattle.tables_csv.specs.Values.{AreValues, FaultsInField, IsFieldFault, IsRowFault, IsValue}
 use Rattle.tables_csv.specs.WholeTables.{AreRows, IsRecordFault}
 

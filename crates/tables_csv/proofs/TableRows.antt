@@ -8,7 +8,7 @@ use Rattle.tables_csv.specs.declared.fault.TableFault.{TableFault}
 use Rattle.tables_csv.specs.declared.fault.TableFault.TheVariants as fault
 use Rattle.tables_csv.proofs.KeyLemmas.{distinct_more}
 use Rattle.tables_csv.proofs.Passing.{passed_all, passed_more, passed_none}
-use Rattle.tables_csv.specs.Keys.{HasKeyOf, HasNewKey}
+use Rattle.tiql_query.specs.Keys.{HasKeyOf, HasNewKey}
 use Rattle.tables_csv.specs.Passes.{GivesFault, GivesRows, Passed}
 use Rattle.tables_csv.specs.Records.{HasLeft, IsOpen}
 use Rattle.tables_csv.specs.Values.{AreValues, IsRowFault}

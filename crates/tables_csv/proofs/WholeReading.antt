@@ -1,5 +1,5 @@
 -- tables, from what a reader of their bytes gives
-use Rattle.std.proofs.Common.{◌≡◌, ◌∙◌, ◌++◌, ℕ, true, false, List, [], ◌∷◌, Some, Bor, sym, subst, inl, inr}
+use Rattle.std.proofs.Common.{◌≡◌, ◌∙◌, ◌++◌, ℕ, false, List, [], ◌∷◌, Some, Bor, sym, subst, inr}
 use Rattle.csv.specs.Reading.{Reached, default_config, reader_state, source_of}
 use Rattle.csv.specs.declared.parser.State.{State}
 use Rattle.csv.specs.declared.parser.State.TheVariants as state
@@ -8,7 +8,7 @@ use Rattle.base_kit.specs.declared.value.Value.{Value}
 use Rattle.tiql_query.specs.declared.relation.QTable.{QTable}
 use Rattle.tables_csv.specs.declared.fault.TableFault.{TableFault}
 use Rattle.tables_csv.specs.declared.fault.TableFault.TheVariants as fault
-use Rattle.tables_csv.proofs.Passing.{same_some}
+use Rattle.std.proofs.lemmas.Option.{same_Some}
 use Rattle.tables_csv.specs.Passes.{GivesFault, GivesRows, LacksFirst, Passed}
 use Rattle.tables_csv.specs.Records.{slice_bytes}
 use Rattle.tables_csv.specs.WholeTables.{FaultsInRecord, IsFirstFault, IsTableOf, is_marked, names_of, without_mark}
@@ -24,12 +24,12 @@ module _ (start after : Reader (Bor (List ℕ))) (bytes text : List ℕ) (table 
 
   first_reached : (passed : Passed start after (names_of table.columns ∷ [])) → Reached default_config state.StartRecord text (names_of table.columns ∷ []) (reader_state after) passed.to
   first_reached passed =
-      let same : passed.from ≡ text = same_some passed.from text (sym passed.source ∙ source) in
+      let same : passed.from ≡ text = same_Some passed.from text (sym passed.source ∙ source) in
       rw (same, begins) at passed.reached
 
   pub table_read : (rows : List (List Value)) → is_marked text ≡ false → Passed start after (names_of table.columns ∷ []) → GivesRows table after rows → IsTableOf bytes table rows
   table_read rows unmarked passed gives =
-      let same : gives.left.bytes ≡ passed.to = same_some gives.left.bytes passed.to (sym gives.left.source ∙ passed.left) in
+      let same : gives.left.bytes ≡ passed.to = same_Some gives.left.bytes passed.to (sym gives.left.source ∙ passed.left) in
       let all = gives.left.all in
       let rest : Reached default_config (reader_state after) passed.to gives.records all.0 all.1 =
       subst (λ (l : List ℕ). Reached default_config (reader_state after) l gives.records all.0 all.1) same all.2 in
@@ -43,7 +43,7 @@ module _ (start after : Reader (Bor (List ℕ))) (bytes text : List ℕ) (table 
   record_fault : (told : TableFault) → is_marked text ≡ false → Passed start after (names_of table.columns ∷ []) → GivesFault table after told → FaultsInRecord (without_mark bytes) table told
   record_fault told unmarked passed gives =
       let more = gives.passed in
-      let same : more.from ≡ passed.to = same_some more.from passed.to (sym more.source ∙ passed.left) in
+      let same : more.from ≡ passed.to = same_Some more.from passed.to (sym more.source ∙ passed.left) in
       let rest = rw same at more.reached in
       rw (← text_is) (record {
         unmarked = unmarked;
@@ -70,6 +70,3 @@ module _ (start after : Reader (Bor (List ℕ))) (bytes text : List ℕ) (table 
 
   pub header_refused : LacksFirst start (names_of table.columns) → IsFirstFault bytes table fault.Header
   header_refused lacks = inr (λ (s, rest, reached). lacks text source s rest (rw (begins, text_is) reached))
-
-pub marked_refused : (bytes text : List ℕ) (table : QTable) → text ≡ without_mark bytes → is_marked text ≡ true → IsFirstFault bytes table fault.Header
-marked_refused bytes text table is marked = inl (rw is at marked)

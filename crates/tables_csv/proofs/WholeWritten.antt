@@ -15,7 +15,8 @@ use Rattle.tables_csv.proofs.Lines.{AreFull, ArePlain, line, plain_line, rows_re
 use Rattle.tables_csv.proofs.Plain.{name_front, name_plain, number_spelled}
 use Rattle.tables_csv.specs.Values.{AreValues, IsValue}
 use Rattle.tables_csv.specs.WholeTables.{IsTableOf, is_marked, names_of, without_mark}
-use Rattle.tables_csv.specs.WholeTexts.{AreRowsOf, IsOfColumn, records_text, value_text}
+use Rattle.tiql_query.specs.Rows.{AreRowsOf, IsOfColumn}
+use Rattle.tables_csv.specs.WholeTexts.{records_text, value_text}
 
 -- one more row
 pub row_added : (names : List (List ℕ)) (rows : List (List Value)) (i : ℕ) (fields : List (List ℕ)) (slice row : List Value) → fields ≡ map value_text slice

@@ -3,7 +3,7 @@ use Rattle.std.specs.Prelude.{◌≡◌, ◌≢◌, ◌<◌, ◌≤◌, ◌-◌,
 use Rattle.base_kit.specs.declared.value.Value.{Value}
 use Rattle.tables_csv.specs.declared.keys.Keys.{Keys}
 use Rattle.tables_csv.specs.Hashes.{hash_of}
-use Rattle.tables_csv.specs.Keys.{key_at}
+use Rattle.tiql_query.specs.Keys.{key_at}
 
 -- the link to the last place below k whose hash falls into the chain
 abbrev pub last_before : ℕ → List ℕ → ℕ → ℕ → ℕ

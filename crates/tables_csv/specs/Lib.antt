@@ -1,10 +1,8 @@
 pub mod Chains
 pub mod Hashes
 pub mod KeyIndexes
-pub mod Keys
 pub mod Numbers
 pub mod Passes
-pub mod QueryTables
 pub mod Records
 pub mod Values
 pub mod WholeTables

@@ -9,7 +9,7 @@ use Rattle.tiql_query.specs.declared.relation.Column.{Column}
 use Rattle.tiql_query.specs.declared.relation.QTable.{QTable}
 use Rattle.tables_csv.specs.declared.fault.TableFault.{TableFault}
 use Rattle.tables_csv.specs.declared.fault.TableFault.TheVariants as fault
-use Rattle.tables_csv.specs.Keys.{HasKeyOf, HaveDistinctKeys}
+use Rattle.tiql_query.specs.Keys.{HasKeyOf, HaveDistinctKeys}
 use Rattle.tables_csv.specs.Values.{AreValues, IsRowFault}
 
 -- the bytes EF BB BF of a byte order mark stand at the front

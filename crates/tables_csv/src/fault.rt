@@ -1,4 +1,4 @@
-//! Why a table was not read.
+//! Why bytes are not a valid table.
 ghost use Rattle.tables_csv.specs.declared.fault.TableFault.{TableFault};
 ghost use Rattle.tables_csv.specs.declared.fault.TableFault.TheVariants as refused;
 ghost use Rattle.std.specs.Prelude.{◌≡◌};
@@ -7,7 +7,7 @@ use base_kit::Memory;
 use std::alloc::AllocError;
 use thiserror::Error;
 
-/// Why bytes were not read as a table: the first thing that is wrong with them (docs/TABLES.md, "Refusals"). Rows and
+/// Why bytes are not a valid table: the first fault in them (docs/TABLES.md, "Refusals"). Rows and
 /// columns are counted from 1, the rows without the header.
 #[derive(Clone, Copy, Debug, PartialEq, Eq, Error)]
 pub enum TableFault {
@@ -20,19 +20,19 @@ pub enum TableFault {
     /// The row has another number of fields than there are columns.
     #[error("row {row} has another number of fields than there are columns")]
     Ragged { row: u32 },
-    /// The field of a text column is no UTF-8.
-    #[error("row {row}, column {column}: the text is no UTF-8")]
+    /// The field of a text column is not valid UTF-8.
+    #[error("row {row}, column {column}: the text is not valid UTF-8")]
     NotUtf8 { row: u32, column: u32 },
     /// The field of a text column has more than 1,000 bytes.
     #[error("row {row}, column {column}: the text has more than 1000 bytes")]
     TooLongText { row: u32, column: u32 },
-    /// The field of a column of numbers spells none.
-    #[error("row {row}, column {column}: no whole number from -10^15 to 10^15")]
+    /// The field of a column of numbers is not a whole number from -10^15 to 10^15.
+    #[error("row {row}, column {column}: not a whole number from -10^15 to 10^15")]
     BadNumber { row: u32, column: u32 },
     /// The row has the key of an earlier row.
     #[error("row {row} has the key of row {earlier}")]
     SameKey { row: u32, earlier: u32 },
-    /// There was not enough memory.
+    /// Out of memory.
     #[error("out of memory")]
     Memory,
 }

@@ -1,7 +1,7 @@
 //! Hashes of the keys of rows.
 ghost use Rattle.std.specs.Prelude.{◌≡◌, fold, option_copied};
 ghost use Rattle.tables_csv.specs.Hashes.{mixed, mixed_number, mixed_text, mixed_entry, hash_of};
-ghost use Rattle.tables_csv.specs.Keys.{key_of};
+ghost use Rattle.tiql_query.specs.Keys.{key_of};
 
 use base_kit::{Row, Value};
 

@@ -1,14 +1,13 @@
 //! The rows of a table, found by their keys.
 ghost use Rattle.std.specs.Prelude.{◌<◌, ◌+◌, ◌^◌, length, IfOk, MatchOption};
-ghost use Rattle.tables_csv.specs.Keys.{HasKeyOf, HasNewKey};
+ghost use Rattle.tiql_query.specs.Keys.{HasKeyOf, HasNewKey};
 ghost use Rattle.tables_csv.specs.KeyIndexes.{IsIndexOf};
 
 use crate::keys::Keys;
 use base_kit::{Memory, Row};
 use std::alloc::Global;
 
-/// An index of the rows of a table by their keys. It takes about 12 bytes for a row. A search in it takes the same time among
-/// many rows as among few, unless the hashes of many keys are equal.
+/// An index of the rows of a table by their keys: rows whose keys have equal hashes hang together in chains.
 #[derive(Drop)]
 pub struct KeyIndex {
     keys: Keys,

@@ -3,7 +3,7 @@
 ghost use Rattle.std.specs.Prelude.{◌≡◌, ◌↔◌, ◌<◌, ◌+◌, ◌^◌, ◌++◌, ◌∷◌, [], length, IfOk, OnOk, IsTrue, MatchOption, option_copied};
 ghost use Rattle.tables_csv.specs.Chains.{AreKeysOf, AreLinked, Linked, Sought};
 ghost use Rattle.tables_csv.specs.Hashes.{hash_of};
-ghost use Rattle.tables_csv.specs.Keys.{key_of, HasKeyOf, HasNewKey};
+ghost use Rattle.tiql_query.specs.Keys.{key_of, HasKeyOf, HasNewKey};
 
 use crate::hash::hash;
 use base_kit::{Memory, Row, Value};
@@ -13,7 +13,7 @@ use std::cmp::Ordering;
 // The most chains: more would not shorten them, since a table has at most 200,000 rows.
 const MOST_CHAINS: usize = 262_144;
 
-/// The chains of the rows of a table. They take about 8 bytes for a row, and 4 for a chain.
+/// The chains of the rows of a table.
 #[derive(Drop)]
 pub(crate) struct Keys {
     heads: Vec<u32>,

@@ -16,6 +16,3 @@ pub use key_index::KeyIndex;
 pub use number::MOST_NUMBER;
 pub use table::{MOST_ROWS, read_table};
 pub use write::table_text;
-
-#[cfg(test)]
-mod tests;

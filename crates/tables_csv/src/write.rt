@@ -5,7 +5,8 @@ ghost use Rattle.csv.specs.Records.{fields_of};
 ghost use Rattle.csv.specs.Writing.{default_writer, row_text};
 ghost use Rattle.base_kit.specs.Names as names;
 ghost use Rattle.tables_csv.specs.WholeTables.{IsTableOf, names_of};
-ghost use Rattle.tables_csv.specs.WholeTexts.{AreRowsOf, records_text, value_text};
+ghost use Rattle.tiql_query.specs.Rows.{AreRowsOf};
+ghost use Rattle.tables_csv.specs.WholeTexts.{records_text, value_text};
 ghost use Rattle.tables_csv.specs.Writers.{HasWritten};
 ghost use Rattle.tiql_query.specs.declared.relation.QTable.{QTable};
 

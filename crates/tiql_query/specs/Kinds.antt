@@ -23,6 +23,7 @@ number unknown = record { text = false; unknown = unknown }
 abbrev pub Scope : Type 0
 Scope = List (List Column)
 
+-- the kind of a column of a source, where it is there
 unfoldable pub kind_at : Scope → At → Option Kind
 kind_at scope at = option_map (λ column. record { text = column.text; unknown = column.unknown }) (slice_get (unwrap_or (slice_get scope at.source) []) at.column)
 
@@ -49,7 +50,7 @@ multiplied [] = Some (number false)
 multiplied (None ∷ factors) = None
 multiplied (Some factor ∷ factors) = with_factor factor (multiplied factors)
 
--- a number of a query is at most 10^15 in size
+-- the kind of an expression by those of its parts. A number of a query is at most 10^15 in size
 abbrev pub kind_step : Scope → Expr-F (Option Kind) (Option Kind) → Option Kind
 kind_step scope (Expr-F.Int n) = if nat_le (unsigned_abs n) (10 ^ 15) then Some (number false) else None
 kind_step scope (Expr-F.Text t) = Some (record { text = true; unknown = false })
@@ -59,6 +60,7 @@ kind_step scope (Expr-F.Product factors) = multiplied factors
 kind_step scope (Expr-F.Neg part) = arithmetic (part ∷ [])
 kind_step scope (Expr-F.Abs part) = arithmetic (part ∷ [])
 
+-- a sign changes no kind
 abbrev pub part_step : Signed-F (Option Kind) (Option Kind) → Option Kind
 part_step signed = signed.part
 
@@ -67,10 +69,12 @@ part_step signed = signed.part
 unfoldable pub kind : Scope → Expr → Option Kind
 kind scope = fold-Expr (Option Kind) (Option Kind) (kind_step scope) part_step
 
+-- it has a kind, which is a number
 abbrev pub is_number : Option Kind → Bool
 is_number None = false
 is_number (Some it) = not it.text
 
+-- it has a kind, which may differ from world to world
 abbrev pub is_unknown : Option Kind → Bool
 is_unknown None = false
 is_unknown (Some it) = it.unknown
@@ -81,6 +85,7 @@ are_alike None other = false
 are_alike (Some one) None = false
 are_alike (Some one) (Some other) = if one.text then other.text else not other.text
 
+-- whether a condition fits, by its parts
 abbrev pub fit_step : Scope → Cond-F Bool → Bool
 fit_step scope (Cond-F.Compare test one other) = are_alike (kind scope one) (kind scope other)
 fit_step scope (Cond-F.Not part) = part
@@ -91,6 +96,7 @@ fit_step scope (Cond-F.Or parts) = list_all (λ fit. fit) parts
 unfoldable pub is_fit : Scope → Cond → Bool
 is_fit scope = fold-Cond Bool (fit_step scope)
 
+-- likewise of a condition that may be missing
 abbrev pub is_fit_filter : Scope → Option Cond → Bool
 is_fit_filter scope None = true
 is_fit_filter scope (Some test) = is_fit scope test

@@ -29,6 +29,7 @@ columns_of query (sources.View n) = option_map (λ view. view.columns) (slice_ge
 abbrev pub IsOver : Query → Source → (Scope → Bool) → Type 0
 IsOver query source holds = (columns : List Column) × (columns_of query source ≡ Some columns) × IsTrue (holds (columns ∷ []))
 
+-- the columns of the key are there, and no column is unknown
 pub record IsTableFit (table : QTable) : Type 0 where
   pub key : All (λ column. column < length table.columns) table.key
   pub fixed : All (λ column. column.unknown ≡ false) table.columns
@@ -66,6 +67,7 @@ IsEarlier query before (sources.Table n) = n < length query.tables
 IsEarlier query before (sources.Hypo n) = n < length query.hypos
 IsEarlier query before (sources.View n) = n < before
 
+-- the columns of each source of a select
 abbrev pub scope_of : Query → Select → Scope
 scope_of query select = map (λ source. unwrap_or (columns_of query source) []) select.sources
 
@@ -73,6 +75,7 @@ scope_of query select = map (λ source. unwrap_or (columns_of query source) []) 
 abbrev pub aggregate : Option Kind → Option Kind
 aggregate part = if is_number part then Some (number true) else None
 
+-- the kind of an item of a select
 unfoldable pub item_kind : Scope → Item → Option Kind
 item_kind scope (items.Plain part) = kind scope part
 item_kind scope (items.Sum part) = aggregate (kind scope part)
@@ -80,6 +83,7 @@ item_kind scope items.Count = Some (number true)
 item_kind scope (items.Min part) = aggregate (kind scope part)
 item_kind scope (items.Max part) = aggregate (kind scope part)
 
+-- the kinds of all items of a select
 abbrev pub item_kinds : Query → Select → List (Option Kind)
 item_kinds query select = map (item_kind (scope_of query select)) select.items
 
@@ -101,11 +105,13 @@ pub record IsViewFit (query : Query) (before : ℕ) (view : QView) : Type 0 wher
   pub marks : (n : ℕ) (column : Column) → slice_get view.columns n ≡ Some column →
       column.unknown ≡ list_any (λ arm. is_unknown (unwrap_or (slice_get (item_kinds query arm) n) None)) view.arms
 
+-- the relation of a requirement is there, and its condition fits
 unfoldable pub IsRequireFit : Query → Require → Type 0
 IsRequireFit query (needs.All source test) = IsOver query source (λ scope. is_fit scope test)
 IsRequireFit query (needs.Some source test) = IsOver query source (λ scope. is_fit scope test)
 IsRequireFit query (needs.None source) = IsOver query source (λ scope. true)
 
+-- the relation of a goal is there, and its expression is a number
 unfoldable pub IsAimFit : Query → Aim → Type 0
 IsAimFit query aims.Find = Unit
 IsAimFit query (aims.Sum maximize source part) = IsOver query source (λ scope. is_number (kind scope part))

@@ -17,6 +17,3 @@ pub use query::Query;
 pub use relation::{Column, QBound, QHypo, QTable, Source};
 pub use view::{Item, QView, Select};
 pub use world_column::WorldColumn;
-
-#[cfg(test)]
-mod tests;

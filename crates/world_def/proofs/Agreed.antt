@@ -1,4 +1,4 @@
--- where no value passes, what is asked is what the expression or the condition is worth
+-- where no value passes, what is asked is the value of the expression or the condition
 use Rattle.std.proofs.Common.{◌≡◌, ℕ, ℤ, ◌+◌, ◌*◌, Bool, true, false, not, List, [], ◌∷◌, map, refl, sym, ◌∙◌, ap, ap₂, subst, arith, pos, if◌then◌else◌, ◌-ℤ◌, ◌*ℤ◌, neg_ℤ, unsigned_abs, Option}
 use Rattle.std.specs.Prelude.{Result, Ok, Err}
 use Rattle.std.specs.List.{list_all, list_any}
@@ -66,7 +66,7 @@ and_then-Ok {E} {A} {B} (Err w) f b e = absurd (let k : ◌≡◌ {A = Result B 
 pub same_answer : {E A : Type 0} (a b : A) → ◌≡◌ {A = Result A E} (Ok a) (Ok b) → a ≡ b
 same_answer a b e = cc
 
--- what is asked of each agrees with what each is worth
+-- what is asked of each agrees with its value
 pub all_of-same : {E A X : Type 0} (f : X → Result A E) (g : X → A) (ys : List ((x : X) × ((a : A) → f x ≡ Ok a → g x ≡ a))) (as_ : List A) → all_of (map f (map (λ y. y.0) ys)) ≡ Ok as_ → map g (map (λ y. y.0) ys) ≡ as_
 all_of-same f g [] as_ e = same_answer [] as_ e
 all_of-same {E} {A} {X} f g (y ∷ ys) as_ e =

@@ -15,7 +15,7 @@ use Rattle.world_def.specs.declared.fault.BoundsFault.TheVariants as fault
 use Rattle.world_def.specs.Values.{number, value}
 use Rattle.world_def.specs.Asked.{asked, truth_asked}
 use Rattle.world_def.specs.Turns.{turns}
-use Rattle.world_def.specs.Columns.{Gives, Rows, Tables, rows_of, told, inside, bound_asked, cell_column, presence_column, with_column, with_presence, with_cell, with_row, with_hypo, columns_of}
+use Rattle.world_def.specs.Columns.{GivesColumns, Rows, Tables, rows_of, told, inside, bound_asked, cell_column, presence_column, with_column, with_presence, with_cell, with_row, with_hypo, columns_of}
 use Rattle.world_def.specs.Meaning.{may_change, cell_choice, presence_choice, choices, rows_choices, all_choices}
 use Rattle.world_def.proofs.Agreed.{and_then-Ok, same_answer, agreed, truth_agreed}
 
@@ -117,6 +117,6 @@ pub columns_told : (query : Query) (tables : Tables) (columns : List WorldColumn
 unfolding columns_of
 columns_told query tables columns e = hypos_told tables query.hypos 0 [] columns e
 
-pub chosen : (query : Query) (tables : Tables) (result : Result (List WorldColumn) BoundsFault) → Gives (columns_of query tables) result → IfOk result (λ columns. columns ≡ all_choices tables 0 query.hypos)
+pub chosen : (query : Query) (tables : Tables) (result : Result (List WorldColumn) BoundsFault) → GivesColumns (columns_of query tables) result → IfOk result (λ columns. columns ≡ all_choices tables 0 query.hypos)
 chosen query tables (Ok columns) e = columns_told query tables columns e
 chosen query tables (Err fault) e = tt

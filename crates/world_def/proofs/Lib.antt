@@ -1,10 +1,15 @@
 pub mod Agreed
+pub mod Bounded
 pub mod Choices
 pub mod Evaluate
+pub mod Firsts
+pub mod Held
 pub mod Judging
 pub mod NumberWalks
+pub mod Numbered
 pub mod Restored
 pub mod Runs
+pub mod Standing
 pub mod Told
 pub mod Turns
 pub mod Walks

@@ -2,7 +2,7 @@
 use Rattle.std.proofs.Common.{◌≡◌, ℕ, ℤ, ◌+◌, ◌<◌, ◌≤◌, Bool, true, false, List, [], ◌∷◌, ◌++◌, length, map, get_or, take, drop, refl, sym, ◌∙◌, ap, ap₂, subst, ◌⊎◌, inl, inr, arith, append_assoc, Option, Some, None}
 use Rattle.std.specs.Prelude.{slice_get, unwrap_or, All, zero, suc}
 use Rattle.std.proofs.lemmas.Option.{slice_get_cases}
-use Rattle.std.proofs.lemmas.List.{drop_more, drop_all, drop-drop, length-drop}
+use Rattle.std.proofs.lemmas.List.{drop_more, drop_all, drop-drop}
 use Rattle.base_kit.specs.declared.value.Value.{Value}
 use Rattle.tiql_query.specs.declared.relation.QHypo.{QHypo}
 use Rattle.tiql_query.specs.declared.world_column.WorldColumn.{WorldColumn}
@@ -112,10 +112,6 @@ module _ (columns : List WorldColumn) (numbers : List ℤ) (i : ℕ) (d : WorldC
 pub row_end : (columns : List WorldColumn) (numbers : List ℤ) (i : ℕ) (row r : List Value) → length columns ≤ i → row_with (drop i columns) (drop i numbers) row ≡ r → row ≡ r
 unfolding row_with
 row_end columns numbers i row r le h = sym (rw (drop_all i columns le) refl) ∙ h
-
--- as many numbers as columns, from a place on and up to one
-pub long_drop : {A B : Type 0} (xs xs' : List A) (ys ys' : List B) (n : ℕ) → length ys ≡ length xs → xs' ≡ drop n xs → ys' ≡ drop n ys → length ys' ≡ length xs'
-long_drop xs xs' ys ys' n e p q = let k = ap length p ∙ length-drop n xs in let l = ap length q ∙ length-drop n ys in omega (arith, e, k, l)
 
 -- the world of given numbers has no more rows than the tables
 put_small : (gone : Bool) (at n : ℕ) (row : List Value) (later : WorldTable) → length later.rows ≤ n → length (put_row gone at row later).rows ≤ suc n

@@ -8,6 +8,7 @@ use Rattle.std.specs.declared.cmp.Ordering.TheVariants.{Less, Equal, Greater}
 use Rattle.std.proofs.Math.Seq.{take-append_seam, drop-append_seam}
 use Rattle.std.proofs.lemmas.List.{length-append, length-map, length-set, get_or-set_same, get_or-set_other, ext_get_or, drop_more, drop_all}
 use Rattle.std.proofs.lemmas.Option.{unwrap_or-slice_get, get_or_from_slice_get}
+use Rattle.std.proofs.lemmas.Bool.{and_parts}
 use Rattle.std.proofs.lemmas.Bool.Decides.{nat_tests}
 use Rattle.base_kit.specs.Orders.{value_order}
 use Rattle.base_kit.proofs.Orders.{value_order-Equal}
@@ -34,10 +35,6 @@ equal_of m n e = grind (arith, nat_tests)
 
 differ_of : (m n : ℕ) → (m == n) ≡ false → m ≢ n
 differ_of m n e k = absurd (let t : true ≡ false = sym (same_number m n k) ∙ e in cc)
-
-pub and_parts : (a b : Bool) → (a && b) ≡ true → (a ≡ true) × (b ≡ true)
-and_parts true b e = (refl, e)
-and_parts false b e = absurd (let t : false ≡ true = e in cc)
 
 same_if : {A : Type 0} (b : Bool) (x : A) → (if b then x else x) ≡ x
 same_if true x = refl

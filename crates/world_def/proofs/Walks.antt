@@ -8,7 +8,7 @@ use Rattle.tiql_query.specs.declared.relation.QHypo.{QHypo}
 use Rattle.tiql_query.specs.declared.world_column.WorldColumn.{WorldColumn}
 use Rattle.world_def.specs.declared.world.WorldTable.{WorldTable}
 use Rattle.world_def.specs.Columns.{Rows, Tables, rows_of}
-use Rattle.world_def.specs.Worlds.{leading, of_hypo, of_row, standing, count_of, is_cell, column_at, fits_cell, row_fits, row_possible, are_none, rows_possible, table_possible, first_impossible}
+use Rattle.world_def.specs.Worlds.{leading, of_hypo, of_row, standing, count_of, is_cell, column_at, fits_cell, row_fits, row_possible, are_none, rows_possible, table_possible, surplus, first_impossible}
 
 pub same_number : (m n : ℕ) → m ≡ n → (m == n) ≡ true
 same_number m n e = grind (arith, nat_tests)
@@ -127,7 +127,9 @@ module _ (tables : Tables) (world : List WorldTable) (hypos : List QHypo) (colum
       let k : table_possible bases (take end (drop from columns)) table ≡ false = sym said ∙ no_ in
       sym (rw (drop_more hypos i hypo lt, ← is, ← e, ← b, ← t, k) refl) ∙ h
 
-pub impossible_end : (tables : Tables) (world : List WorldTable) (hypos : List QHypo) (columns : List WorldColumn) (i : ℕ) (r : Option ℕ) → length hypos ≤ i
-    → first_impossible tables world i (drop i hypos) columns ≡ r → None ≡ r
+pub impossible_end : (tables : Tables) (world : List WorldTable) (hypos : List QHypo) (columns : List WorldColumn) (i : ℕ) (last r : Option ℕ) → i ≡ length hypos
+    → last ≡ surplus world (length hypos) → first_impossible tables world i (drop i hypos) columns ≡ r → last ≡ r
 unfolding first_impossible
-impossible_end tables world hypos columns i r le h = sym (rw (drop_all i hypos le) refl) ∙ h
+impossible_end tables world hypos columns i last r all said h =
+    let none : first_impossible tables world i (drop i hypos) columns ≡ surplus world i = rw (drop_all i hypos (omega (arith, all))) refl in
+    said ∙ ap (surplus world) (sym all) ∙ sym none ∙ h

@@ -17,6 +17,7 @@ use Rattle.tiql_query.specs.declared.condition.Cond.TheFolds.{fold-Cond}
 use Rattle.world_def.specs.declared.fault.Wide.{Wide}
 use Rattle.world_def.specs.Values.{Combination, number, text, cell, total, signed, holds}
 
+-- whether a number is more than 10^17 in size
 abbrev pub passes : ℤ → Bool
 passes n = nat_lt (10 ^ 17) (unsigned_abs n)
 
@@ -34,9 +35,11 @@ partial_products product (n ∷ ns) = and_then (within product) (λ so_far. part
 unfoldable pub product_within : List ℤ → Result ℤ Wide
 product_within ns = if list_any (λ n. int_eq n (pos 0)) ns then Ok (pos 0) else partial_products (pos 1) ns
 
+-- the sum of parts that are asked one after the other
 abbrev pub sum_asked : List (Result ℤ Wide) → Result ℤ Wide
 sum_asked parts = and_then (all_of parts) (λ ns. within (total ns))
 
+-- likewise the product of factors
 abbrev pub product_asked : List (Result ℤ Wide) → Result ℤ Wide
 product_asked factors = and_then (all_of factors) product_within
 
@@ -50,6 +53,7 @@ asked_step rows (Expr-F.Product factors) = product_asked factors
 asked_step rows (Expr-F.Neg part) = and_then part (λ n. Ok (neg_ℤ n))
 asked_step rows (Expr-F.Abs part) = and_then part (λ n. Ok (pos (unsigned_abs n)))
 
+-- a part of a sum with its sign
 abbrev pub asked_part_step : Signed-F (Result ℤ Wide) (Result ℤ Wide) → Result ℤ Wide
 asked_part_step part = and_then part.part (λ n. Ok (signed part.minus n))
 
@@ -57,9 +61,11 @@ asked_part_step part = and_then part.part (λ n. Ok (signed part.minus n))
 unfoldable pub asked : Combination → Expr → Result ℤ Wide
 asked rows = fold-Expr (Result ℤ Wide) (Result ℤ Wide) (asked_step rows) asked_part_step
 
+-- likewise of a part of a sum
 unfoldable pub asked_part : Combination → Signed → Result ℤ Wide
 asked_part rows = fold-Signed (Result ℤ Wide) (Result ℤ Wide) (asked_step rows) asked_part_step
 
+-- the text of an expression, by its form
 abbrev pub text_step : Combination → Expr-F (Option (List ℕ)) (Option (List ℕ)) → Option (List ℕ)
 text_step rows (Expr-F.Int n) = None
 text_step rows (Expr-F.Text t) = Some t

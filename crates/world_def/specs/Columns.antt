@@ -14,6 +14,7 @@ use Rattle.world_def.specs.declared.fault.BoundsFault.TheVariants as fault
 use Rattle.world_def.specs.Asked.{asked, truth_asked}
 use Rattle.world_def.specs.Turns.{turns}
 
+-- the rows of one table
 abbrev pub Rows : Type 0
 Rows = List (List Value)
 
@@ -26,9 +27,9 @@ unfoldable pub rows_of : Tables → ℕ → Rows
 rows_of tables number = unwrap_or (slice_get tables number) []
 
 -- this is what the asking comes to, unless memory is wanting
-abbrev pub Gives : {A : Type 0} → Result A BoundsFault → Result A BoundsFault → Type 0
-Gives outcome (Ok a) = outcome ≡ Ok a
-Gives outcome (Err e) = e ≢ fault.Memory → outcome ≡ Err e
+abbrev pub GivesColumns : {A : Type 0} → Result A BoundsFault → Result A BoundsFault → Type 0
+GivesColumns outcome (Ok a) = outcome ≡ Ok a
+GivesColumns outcome (Err e) = e ≢ fault.Memory → outcome ≡ Err e
 
 -- what is told of a value that passes, over the hypothetical table with this number
 abbrev pub told : {A : Type 0} → ℕ → Result A Wide → Result A BoundsFault
@@ -58,6 +59,7 @@ presence_column hypo at = record { hypo = hypo; row = at; cell = None; droppable
 unfoldable pub with_column : WorldColumn → List WorldColumn → Result (List WorldColumn) BoundsFault
 with_column column made = if nat_lt (length made) 20000000 then Ok (made ++ column ∷ []) else Err fault.TooManyWorldColumns
 
+-- with the column of a row's presence, where the row may be left out
 unfoldable pub with_presence : ℕ → Bool → ℕ → List WorldColumn → Result (List WorldColumn) BoundsFault
 with_presence hypo droppable at made = if droppable then with_column (presence_column hypo at) made else Ok made
 

@@ -39,10 +39,12 @@ unfoldable pub one_meets : Cond → Rows → Result Bool Wide
 one_meets test [] = Ok false
 one_meets test (row ∷ rows) = and_then (truth_asked (row ∷ []) test) (λ holds. if holds then Ok true else one_meets test rows)
 
+-- the number of the first row, from 1, where there is one
 abbrev pub none_of : Rows → Option ℕ
 none_of [] = None
 none_of (row ∷ rows) = Some 1
 
+-- the relation that a requirement speaks of
 abbrev pub source_of : Require → Source
 source_of (needs.All source test) = source
 source_of (needs.Some source test) = source
@@ -54,6 +56,7 @@ broken_row (needs.All source test) rows = first_broken test 1 rows
 broken_row (needs.Some source test) rows = and_then (one_meets test rows) (λ met. Ok (if met then None else Some 0))
 broken_row (needs.None source) rows = Ok (none_of rows)
 
+-- a requirement with the row at which it is broken
 abbrev pub as_broken : ℕ → Option ℕ → Option Broken
 as_broken number None = None
 as_broken number (Some row) = Some (record { requirement = number; row = row })
@@ -62,6 +65,7 @@ as_broken number (Some row) = Some (record { requirement = number; row = row })
 unfoldable pub broken_at : Tables → World → ℕ → Require → Result (Option Broken) EvalFault
 broken_at tables world number require = and_then (named (source_of require) (broken_row require (rows_in tables world (source_of require)))) (λ found. Ok (as_broken number found))
 
+-- a requirement that is broken, or else the first of those behind it
 abbrev pub or_else : Option Broken → Result (Option Broken) EvalFault → Result (Option Broken) EvalFault
 or_else None later = later
 or_else (Some broken) later = Ok (Some broken)
@@ -75,6 +79,7 @@ broken_from tables world number (require ∷ requires_) = and_then (broken_at ta
 unfoldable pub sum_over : Expr → Rows → Result ℤ Wide
 sum_over part rows = and_then (all_of (map (λ row. asked (row ∷ []) part) rows)) (λ ns. within (total ns))
 
+-- the score, 0 for FIND
 unfoldable pub score_asked : Tables → World → Aim → Result ℤ EvalFault
 score_asked tables world aims.Find = Ok (pos 0)
 score_asked tables world (aims.Sum maximize source part) = named source (sum_over part (rows_in tables world source))

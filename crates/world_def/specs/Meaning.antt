@@ -1,5 +1,5 @@
 -- the worlds of a query without views: which are possible, which meet it, their scores, and the best of them
-use Rattle.std.specs.Prelude.{◌≡◌, ℕ, ℤ, pos, ◌+◌, ◌<ℤ◌, Bool, true, false, ◌&&◌, IsTrue, if◌then◌else◌, List, [], ◌∷◌, ◌++◌, map, drop, length, Option, Some, None, slice_get}
+use Rattle.std.specs.Prelude.{◌≡◌, ℕ, ℤ, pos, ◌+◌, ◌<◌, ◌==◌, ◌<ℤ◌, Bool, true, false, ◌&&◌, IsTrue, if◌then◌else◌, List, [], ◌∷◌, ◌++◌, map, drop, length, Option, Some, None, slice_get}
 use Rattle.std.specs.List.{list_all, list_any}
 use Rattle.base_kit.specs.declared.value.Value.{Value}
 use Rattle.tiql_query.specs.declared.condition.Cond.{Cond}
@@ -17,7 +17,7 @@ use Rattle.world_def.specs.Best as best
 use Rattle.world_def.specs.Values.{number, total, value, truth}
 use Rattle.world_def.specs.Columns.{Rows, Tables, rows_of, presence_column}
 use Rattle.world_def.specs.Judging.{rows_in, source_of}
-use Rattle.world_def.specs.Worlds.{standing, count_of, row_possible, are_none}
+use Rattle.world_def.specs.Worlds.{standing, count_of, row_possible, are_none, number_in}
 
 -- whether a row of the table may change; without a condition every row may
 unfoldable pub may_change : Option Cond → List Value → Bool
@@ -29,6 +29,7 @@ unfoldable pub cell_choice : ℕ → Bool → ℕ → List Value → QBound → 
 cell_choice hypo droppable at row bound =
     record { hypo = hypo; row = at; cell = Some bound.column; droppable = droppable; lo = number (value (row ∷ []) bound.lo); hi = number (value (row ∷ []) bound.hi) }
 
+-- the choice whether a row is there, under DROP
 abbrev pub presence_choice : ℕ → Bool → ℕ → List WorldColumn
 presence_choice hypo true at = presence_column hypo at ∷ []
 presence_choice hypo false at = []
@@ -45,18 +46,53 @@ rows_can hypo table at (base ∷ bases) picks rows =
     row_possible (choices hypo table at base) base (standing at picks rows)
     && rows_can hypo table (at + 1) bases (drop (count_of (standing at picks rows)) picks) (drop (count_of (standing at picks rows)) rows)
 
+-- a hypothetical table's rows, from the first on
 abbrev pub table_can : ℕ → QHypo → Rows → Option WorldTable → Bool
 table_can hypo table bases None = false
 table_can hypo table bases (Some made) = rows_can hypo table 0 bases made.picks made.rows
 
+-- and those of each hypothetical table, from the one with this number on
 unfoldable pub tables_can : Tables → List WorldTable → ℕ → List QHypo → Bool
 tables_can tables world hypo [] = true
 tables_can tables world hypo (table ∷ others) = table_can hypo table (rows_of tables table.table) (slice_get world hypo) && tables_can tables world (hypo + 1) others
 
--- each hypothetical table has rows that the rows of its table can be, in their order
+-- each hypothetical table has rows that the rows of its table can be, in their order, and there are no more tables
 pub record IsPossible (query : Query) (tables : Tables) (world : World) : Type 0 where
   pub long : length world.tables ≡ length query.hypos
   pub rows : tables_can tables world.tables 0 query.hypos ≡ true
+
+-- what the world has at this number is not what this hypothetical table may be; where there is none, the world has a table there
+abbrev pub IsNotFor : Tables → World → ℕ → Option QHypo → Type 0
+IsNotFor tables world number None = number < length world.tables
+IsNotFor tables world number (Some hypo) = table_can number hypo (rows_of tables hypo.table) (slice_get world.tables number) ≡ false
+
+-- the world is not possible for the hypothetical table with this number, or has a table too many there
+abbrev pub IsWrongAt : Query → Tables → World → ℕ → Type 0
+IsWrongAt query tables world number = IsNotFor tables world number (slice_get query.hypos number)
+
+-- the first number at which the world is wrong
+pub record IsFirstWrong (query : Query) (tables : Tables) (world : World) (number : ℕ) : Type 0 where
+  pub here : IsWrongAt query tables world number
+  pub first : (earlier : ℕ) → earlier < number → IsWrongAt query tables world earlier → ⊥
+
+-- the row of a world over the row of the table with this number, where it is there
+unfoldable pub row_over : ℕ → List ℕ → Rows → Option (List Value)
+row_over at [] rows = None
+row_over at (pick ∷ picks) [] = None
+row_over at (pick ∷ picks) (row ∷ rows) = if pick == at then Some row else row_over at picks rows
+
+-- likewise of a hypothetical table's rows, where the world has it
+abbrev pub row_in : ℕ → Option WorldTable → Option (List Value)
+row_in at None = None
+row_in at (Some table) = row_over at table.picks table.rows
+
+-- the number of a world column: whether its row is there, 1 or 0; or what its cell holds, and 0 where its row is not there
+abbrev pub number_of : World → WorldColumn → ℤ
+number_of world column = number_in (row_in column.row (slice_get world.tables column.hypo)) column
+
+-- the numbers of a world, one for each column
+abbrev pub numbers : List WorldColumn → World → List ℤ
+numbers columns world = map (number_of world) columns
 
 -- ALL: every row meets the condition; SOME: one does; NONE: there is no row
 abbrev pub is_met : Require → Rows → Bool
@@ -64,13 +100,16 @@ is_met (needs.All source test) rows = list_all (λ row. truth (row ∷ []) test)
 is_met (needs.Some source test) rows = list_any (λ row. truth (row ∷ []) test) rows
 is_met (needs.None source) rows = are_none rows
 
+-- each requirement holds of the rows of its relation
 abbrev pub Meets : Query → Tables → World → Type 0
 Meets query tables world = IsTrue (list_all (λ need. is_met need (rows_in tables world (source_of need))) query.requires_)
 
+-- the sum of the goal's expression over the rows of its relation, and 0 for FIND
 unfoldable pub score : Aim → Tables → World → ℤ
 score aims.Find tables world = pos 0
 score (aims.Sum maximize source part) tables world = total (map (λ row. number (value (row ∷ []) part)) (rows_in tables world source))
 
+-- the greater score is better under MAXIMIZE, the lesser under MINIMIZE
 abbrev pub better_by : Bool → ℤ → ℤ → Type 0
 better_by true one other = other <ℤ one
 better_by false one other = one <ℤ other
@@ -80,9 +119,11 @@ abbrev pub Better : Aim → ℤ → ℤ → Type 0
 Better aims.Find one other = ⊥
 Better (aims.Sum maximize source part) one other = better_by maximize one other
 
+-- the world is possible and meets, and no possible world that meets is better
 abbrev pub IsBest : Query → Tables → World → Type 0
 IsBest query tables world = best.IsBest (IsPossible query tables) (Meets query tables) (score query.aim tables) (Better query.aim) world
 
+-- no possible world meets
 abbrev pub NoneMeets : Query → Tables → Type 0
 NoneMeets query tables = best.NoneMeets (IsPossible query tables) (Meets query tables)
 

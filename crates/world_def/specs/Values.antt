@@ -1,4 +1,4 @@
--- what expressions and conditions are worth on rows: whole numbers of any size, texts and truths
+-- the values of expressions and conditions on rows: whole numbers of any size, texts and truths
 use Rattle.std.specs.Prelude.{ℕ, ℤ, pos, ◌+ℤ◌, ◌*ℤ◌, neg_ℤ, unsigned_abs, Bool, true, false, not, if◌then◌else◌, List, [], ◌∷◌, map, Option, Some, None, unwrap_or, slice_get}
 use Rattle.std.specs.List.{list_all, list_any}
 use Rattle.std.specs.declared.cmp.Ordering.{Ordering}
@@ -34,10 +34,12 @@ text (Text t) = Some t
 unfoldable pub cell : Combination → At → Value
 cell rows at = unwrap_or (slice_get (unwrap_or (slice_get rows at.source) []) at.column) (Int (pos 0))
 
+-- the sum of numbers
 abbrev pub total : List ℤ → ℤ
 total [] = pos 0
 total (n ∷ ns) = n +ℤ total ns
 
+-- the product of numbers
 abbrev pub product : List ℤ → ℤ
 product [] = pos 1
 product (n ∷ ns) = n *ℤ product ns
@@ -46,6 +48,7 @@ product (n ∷ ns) = n *ℤ product ns
 abbrev pub signed : Bool → ℤ → ℤ
 signed minus n = if minus then neg_ℤ n else n
 
+-- the value of an expression, by those of its parts
 abbrev pub value_step : Combination → Expr-F Value ℤ → Value
 value_step rows (Expr-F.Int n) = Int n
 value_step rows (Expr-F.Text t) = Text t
@@ -55,6 +58,7 @@ value_step rows (Expr-F.Product factors) = Int (product (map number factors))
 value_step rows (Expr-F.Neg part) = Int (neg_ℤ (number part))
 value_step rows (Expr-F.Abs part) = Int (pos (unsigned_abs (number part)))
 
+-- the number of a part of a sum, by the value of its expression
 abbrev pub part_step : Signed-F Value ℤ → ℤ
 part_step part = signed part.minus (number part.part)
 
@@ -83,6 +87,7 @@ holds cmp.Ge Less = false
 holds cmp.Ge Equal = true
 holds cmp.Ge Greater = true
 
+-- whether a condition holds, by its parts
 abbrev pub truth_step : Combination → Cond-F Bool → Bool
 truth_step rows (Cond-F.Compare test one other) = holds test (value_order (value rows one) (value rows other))
 truth_step rows (Cond-F.Not part) = not part

@@ -1,5 +1,5 @@
 -- worlds row by row: which are possible, which numbers they have, and the world that has given numbers
-use Rattle.std.specs.Prelude.{ℕ, ℤ, pos, ◌+◌, ◌==◌, int_le, Bool, true, false, ◌&&◌, if◌then◌else◌, List, [], ◌∷◌, ◌++◌, map, take, drop, Option, Some, None, unwrap_or, is_none, slice_get, slice_set}
+use Rattle.std.specs.Prelude.{ℕ, ℤ, pos, ◌+◌, ◌==◌, int_le, Bool, true, false, ◌&&◌, nat_lt, if◌then◌else◌, length, List, [], ◌∷◌, ◌++◌, map, take, drop, Option, Some, None, unwrap_or, is_none, slice_get, slice_set}
 use Rattle.std.specs.List.{list_any}
 use Rattle.std.specs.Ordering.{int_eq}
 use Rattle.std.specs.declared.cmp.Ordering.{Ordering}
@@ -18,9 +18,11 @@ unfoldable pub leading : (WorldColumn → Bool) → List WorldColumn → ℕ
 leading is_so [] = 0
 leading is_so (column ∷ columns) = if is_so column then 1 + leading is_so columns else 0
 
+-- a column of this hypothetical table
 abbrev pub of_hypo : ℕ → WorldColumn → Bool
 of_hypo hypo column = column.hypo == hypo
 
+-- a column of this row
 abbrev pub of_row : ℕ → WorldColumn → Bool
 of_row at column = column.row == at
 
@@ -35,6 +37,7 @@ unfoldable pub count_of : Option (List Value) → ℕ
 count_of None = 0
 count_of (Some row) = 1
 
+-- the set column in this place
 abbrev pub is_cell : ℕ → Option ℕ → Bool
 is_cell place None = false
 is_cell place (Some column) = column == place
@@ -44,11 +47,13 @@ unfoldable pub column_at : List WorldColumn → ℕ → Option WorldColumn
 column_at [] place = None
 column_at (column ∷ columns) place = if is_cell place column.cell then Some column else column_at columns place
 
+-- values that stand so to each other are equal
 abbrev pub is_equal : Ordering → Bool
 is_equal Less = false
 is_equal Equal = true
 is_equal Greater = false
 
+-- a number between the column's bounds
 abbrev pub is_between : WorldColumn → Value → Bool
 is_between column (Int n) = int_le column.lo n && int_le n column.hi
 is_between column (Text t) = false
@@ -70,6 +75,7 @@ unfoldable pub row_possible : List WorldColumn → List Value → Option (List V
 row_possible columns base None = list_any (λ column. is_none column.cell) columns
 row_possible columns base (Some row) = row_fits columns 0 base row
 
+-- nothing is left
 abbrev pub are_none : {A : Type 0} → List A → Bool
 are_none [] = true
 are_none (x ∷ xs) = false
@@ -87,9 +93,13 @@ abbrev pub table_possible : Rows → List WorldColumn → Option WorldTable → 
 table_possible bases columns None = false
 table_possible bases columns (Some table) = rows_possible 0 bases columns table.picks table.rows
 
--- the first hypothetical table that is not possible; this is the number of the first of them
+-- a table of the world behind those of the hypothetical tables, which are so many
+abbrev pub surplus : List WorldTable → ℕ → Option ℕ
+surplus world number = if nat_lt number (length world) then Some number else None
+
+-- the first table that is not possible, a surplus one behind all others; this is the number of the first hypothetical table
 unfoldable pub first_impossible : Tables → List WorldTable → ℕ → List QHypo → List WorldColumn → Option ℕ
-first_impossible tables world number [] columns = None
+first_impossible tables world number [] columns = surplus world number
 first_impossible tables world number (hypo ∷ hypos) columns =
     if table_possible (rows_of tables hypo.table) (take (leading (of_hypo number) columns) columns) (slice_get world number)
     then first_impossible tables world (number + 1) hypos (drop (leading (of_hypo number) columns) columns)
@@ -111,6 +121,7 @@ rows_numbers at (base ∷ bases) columns picks rows =
     map (number_in (standing at picks rows)) (take (leading (of_row at) columns) columns)
     ++ rows_numbers (at + 1) bases (drop (leading (of_row at) columns) columns) (drop (count_of (standing at picks rows)) picks) (drop (count_of (standing at picks rows)) rows)
 
+-- the numbers of a hypothetical table's columns, none where the world has no such table
 abbrev pub table_numbers : Rows → List WorldColumn → Option WorldTable → List ℤ
 table_numbers bases columns None = []
 table_numbers bases columns (Some table) = rows_numbers 0 bases columns table.picks table.rows
@@ -130,6 +141,7 @@ with_number column n row = in_cell column.cell
     in_cell None = row
     in_cell (Some place) = slice_set row place (Int n)
 
+-- a row with a number in the cell of each column
 unfoldable pub row_with : List WorldColumn → List ℤ → List Value → List Value
 row_with [] numbers row = row
 row_with (column ∷ columns) [] row = row
@@ -141,13 +153,16 @@ is_left_out [] numbers = false
 is_left_out (column ∷ columns) [] = false
 is_left_out (column ∷ columns) (n ∷ numbers) = is_none column.cell && int_eq n (pos 0)
 
+-- the rows behind one, and that one before them unless it is gone
 abbrev pub put_row : Bool → ℕ → List Value → WorldTable → WorldTable
 put_row true at row later = later
 put_row false at row later = record { picks = at ∷ later.picks; rows = row ∷ later.rows }
 
+-- a table without rows
 abbrev pub no_rows : WorldTable
 no_rows = record { picks = []; rows = [] }
 
+-- a table of one row, or of none where it is gone
 abbrev pub one_row : Bool → ℕ → List Value → WorldTable
 one_row gone at row = put_row gone at row no_rows
 

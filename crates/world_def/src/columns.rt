@@ -29,7 +29,7 @@ pub fn world_columns(
     tables: &Tables,
 ) -> Result<List<WorldColumn>, BoundsFault>
     requires { spec.IsSmall query.now tables.now }
-    ensures told { spec.Gives (spec.columns_of query.now tables.now) result }
+    ensures told { spec.GivesColumns (spec.columns_of query.now tables.now) result }
     ensures choices { IfOk result (λ columns. columns ≡ all_choices tables.now 0 query.now.hypos) }
 {
     all_columns(alloc, query, tables)
@@ -42,7 +42,7 @@ fn all_columns(
     tables: &Tables,
 ) -> Result<List<WorldColumn>, BoundsFault>
     requires { spec.IsSmall query.now tables.now }
-    ensures { spec.Gives (spec.columns_of query.now tables.now) result }
+    ensures { spec.GivesColumns (spec.columns_of query.now tables.now) result }
 {
     with_hypos(List::new(alloc), query.hypos.as_slice(), tables)
 }
@@ -55,7 +55,7 @@ fn with_hypos(
 ) -> Result<List<WorldColumn>, BoundsFault>
     requires hypos { length hypos.now < 4294967296 }
     requires rows { All (λ rows. length rows ≤ 200000) tables.now }
-    ensures { spec.Gives (turns (spec.with_hypo tables.now) 0 hypos.now before) result }
+    ensures { spec.GivesColumns (turns (spec.with_hypo tables.now) 0 hypos.now before) result }
 {
     let mut made = before;
     for (at, hypo) in hypos.iter().enumerate() {
@@ -86,7 +86,7 @@ fn with_hypo(
     rows: &[Row],
 ) -> Result<List<WorldColumn>, BoundsFault>
     requires { length rows.now ≤ 200000 }
-    ensures { spec.Gives (turns (spec.with_row number hypo.now) 0 rows.now before) result }
+    ensures { spec.GivesColumns (turns (spec.with_row number hypo.now) 0 rows.now before) result }
 {
     let mut made = before;
     for (at, row) in rows.iter().enumerate() {
@@ -105,7 +105,7 @@ fn with_row(
     row: &Row,
 ) -> Result<List<WorldColumn>, BoundsFault>
     requires { at < 4294967295 }
-    ensures { spec.Gives (spec.with_row number hypo.now at row.now before) result }
+    ensures { spec.GivesColumns (spec.with_row number hypo.now at row.now before) result }
 {
     if !inside(number, &hypo.filter, row)? {
         return Ok(before);
@@ -139,7 +139,7 @@ fn with_presence(
     droppable: bool,
     at: u32,
 ) -> Result<List<WorldColumn>, BoundsFault>
-    ensures { spec.Gives (spec.with_presence hypo droppable at before) result }
+    ensures { spec.GivesColumns (spec.with_presence hypo droppable at before) result }
 {
     if droppable {
         let presence = WorldColumn {
@@ -166,7 +166,7 @@ fn with_cells(
     set: &[QBound],
 ) -> Result<List<WorldColumn>, BoundsFault>
     requires { at < 4294967295 }
-    ensures { spec.Gives (turns (spec.with_cell hypo droppable at row.now) 0 set.now before) result }
+    ensures { spec.GivesColumns (turns (spec.with_cell hypo droppable at row.now) 0 set.now before) result }
 {
     let mut made = before;
     for bound in set {
@@ -186,7 +186,7 @@ fn with_cell(
     bound: &QBound,
 ) -> Result<List<WorldColumn>, BoundsFault>
     requires { at < 4294967295 }
-    ensures { spec.Gives (spec.with_cell hypo droppable at row.now 0 bound.now before) result }
+    ensures { spec.GivesColumns (spec.with_cell hypo droppable at row.now 0 bound.now before) result }
 {
     let column = cell_column(hypo, droppable, at, row, bound)?;
     with_column(before, column)
@@ -248,7 +248,7 @@ fn with_column(
     before: List<WorldColumn>,
     column: WorldColumn,
 ) -> Result<List<WorldColumn>, BoundsFault>
-    ensures { spec.Gives (spec.with_column column before) result }
+    ensures { spec.GivesColumns (spec.with_column column before) result }
 {
     if before.len() >= MOST_WORLD_COLUMNS {
         return Err(BoundsFault::TooManyWorldColumns);

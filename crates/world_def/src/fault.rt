@@ -13,7 +13,7 @@ pub struct Wide {
     pub number: i128,
 }
 
-/// Why the rows of a world were not judged.
+/// Why a world was not judged.
 #[derive(Clone, Copy, Debug, PartialEq, Eq, Error)]
 pub enum EvalFault {
     /// A value passes 10^17 in size.
@@ -26,7 +26,7 @@ pub enum EvalFault {
     },
 }
 
-/// Why there are no world columns.
+/// Why a query has no world columns.
 #[derive(Clone, Copy, Debug, PartialEq, Eq, Error)]
 pub enum BoundsFault {
     /// A lower bound is above the upper one.
@@ -48,7 +48,7 @@ pub enum BoundsFault {
     /// There would be more than 20,000,000 world columns.
     #[error("there are more than 20000000 world columns")]
     TooManyWorldColumns,
-    /// There was not enough memory.
+    /// Out of memory.
     #[error("out of memory")]
     Memory,
 }

@@ -19,6 +19,3 @@ pub use judge::{Broken, meets, score};
 pub use numbers::{numbers_of, world_at};
 pub use world::{World, WorldTable};
 pub use worlds::is_possible;
-
-#[cfg(test)]
-mod tests;

@@ -1,7 +1,10 @@
 //! The numbers that a world has, and the world that has given numbers.
 
-ghost use Rattle.std.specs.Prelude.{◌≡◌, ◌≤◌, ◌<◌, ◌++◌, length, All, map, option_map, IfOk, OnOk, take, drop};
-ghost use Rattle.world_def.specs.Columns.{IsSmall};
+ghost use Rattle.std.specs.Prelude.{◌≡◌, ◌≤◌, ◌<◌, ◌++◌, length, All, map, option_map, Ok, IfOk, OnOk, take, drop};
+ghost use Rattle.world_def.specs.Columns.{IsSmall, columns_of};
+ghost use Rattle.world_def.specs.Meaning as meaning;
+ghost use Rattle.world_def.specs.Meaning.{IsPossible};
+ghost use Rattle.world_def.specs.declared.world.World.{World};
 ghost use Rattle.world_def.specs.Worlds as spec;
 
 use crate::columns::{Tables, rows_of};
@@ -15,7 +18,8 @@ use tiql_query::{QHypo, Query, WorldColumn};
 /// The numbers of a world, one for each column: 1 for a row that is there and 0 for one that is not, a cell's number, and 0 in a
 /// row that is not there (docs/MEANING.md, "World columns").
 ///
-/// The world is possible, and the columns are those of `world_columns` for the same query and tables.
+/// The world is possible, and the columns are those of `world_columns` for the same query and tables. For any others `walk` says
+/// what is given.
 pub fn numbers_of(
     alloc: Global,
     query: &Query,
@@ -24,7 +28,8 @@ pub fn numbers_of(
     world: &World,
 ) -> Result<List<i64>, Memory>
     requires { IsSmall query.now tables.now }
-    ensures { IfOk result (λ made. made ≡ spec.world_numbers tables.now world.now.tables 0 query.now.hypos columns.now) }
+    ensures numbers { IfOk result (λ made. columns_of query.now tables.now ≡ Ok columns.now → IsPossible query.now tables.now world.now → made ≡ meaning.numbers columns.now world.now) }
+    ensures walk { IfOk result (λ made. made ≡ spec.world_numbers tables.now world.now.tables 0 query.now.hypos columns.now) }
 {
     let hypos = query.hypos.as_slice();
     let columns = columns.as_slice();
@@ -141,9 +146,10 @@ fn number_in(row: Option<&Row>, column: &WorldColumn) -> i64
     }
 }
 
-/// The world that has these numbers.
+/// The world that has these numbers. There is one at most.
 ///
-/// They are the numbers of a possible world, and the columns are those of `world_columns` for the same query and tables.
+/// They are the numbers of a possible world, and the columns are those of `world_columns` for the same query and tables. For any
+/// others `walk` says what is given.
 pub fn world_at(
     alloc: Global,
     query: &Query,
@@ -153,7 +159,8 @@ pub fn world_at(
 ) -> Result<World, Memory>
     requires small { IsSmall query.now tables.now }
     requires long { length numbers.now ≡ length columns.now }
-    ensures world { IfOk result (λ world. world.tables ≡ spec.tables_at tables.now 0 query.now.hypos columns.now numbers.now) }
+    ensures world { IfOk result (λ made. (world : World) → columns_of query.now tables.now ≡ Ok columns.now → IsPossible query.now tables.now world → meaning.numbers columns.now world ≡ numbers.now → made ≡ world) }
+    ensures walk { IfOk result (λ world. world.tables ≡ spec.tables_at tables.now 0 query.now.hypos columns.now numbers.now) }
     ensures small { IfOk result (λ world. All (λ table. length table.rows ≤ 200000) world.tables) }
 {
     Ok(World {

@@ -1,6 +1,7 @@
 //! Worlds: a table for each hypothetical table of a query.
 
-use base_kit::{List, Row};
+use base_kit::{Duplicate, List, Memory, Row};
+use std::alloc::Global;
 
 /// The rows of a hypothetical table in a world.
 #[derive(Debug, Drop)]
@@ -16,4 +17,21 @@ pub struct WorldTable {
 pub struct World {
     /// The tables.
     pub tables: List<WorldTable>,
+}
+
+impl Duplicate for WorldTable {
+    fn copy(&self, alloc: Global) -> Result<WorldTable, Memory> {
+        Ok(WorldTable {
+            picks: self.picks.copy(alloc)?,
+            rows: self.rows.copy(alloc)?,
+        })
+    }
+}
+
+impl Duplicate for World {
+    fn copy(&self, alloc: Global) -> Result<World, Memory> {
+        Ok(World {
+            tables: self.tables.copy(alloc)?,
+        })
+    }
 }

@@ -1,8 +1,9 @@
 //! Worlds row by row: which are possible, and which numbers they have.
 
-ghost use Rattle.std.specs.Prelude.{◌≡◌, ◌≤◌, ◌<◌, ◌&&◌, length, All, map, Option, option_map, IfOk, is_none, slice_get};
+ghost use Rattle.std.specs.Prelude.{◌≡◌, ◌≤◌, ◌<◌, ◌&&◌, ◌↔◌, length, All, map, None, Ok, Option, option_map, IfSome, is_none, slice_get};
 ghost use Rattle.std.specs.List.{list_any};
-ghost use Rattle.world_def.specs.Columns.{IsSmall};
+ghost use Rattle.world_def.specs.Columns.{IsSmall, columns_of};
+ghost use Rattle.world_def.specs.Meaning.{IsFirstWrong, IsPossible};
 ghost use Rattle.world_def.specs.Worlds as spec;
 
 use crate::columns::{Tables, rows_of};
@@ -13,9 +14,9 @@ use std::cmp::Ordering;
 use tiql_query::{QHypo, Query, WorldColumn};
 
 /// Whether a world is possible: `None`, or the number of the first hypothetical table that is not, from 0 (docs/MEANING.md,
-/// "Possible worlds").
+/// "Possible worlds"). Where all of them are, but the world has more tables, the number is that of the first table too many.
 ///
-/// The columns are those of `world_columns` for the same query and tables.
+/// The columns are those of `world_columns` for the same query and tables. For any others `walk` says what is told.
 pub fn is_possible(
     query: &Query,
     tables: &Tables,
@@ -23,7 +24,9 @@ pub fn is_possible(
     world: &World,
 ) -> Option<u32>
     requires { IsSmall query.now tables.now }
-    ensures { result ≡ spec.first_impossible tables.now world.now.tables 0 query.now.hypos columns.now }
+    ensures possible { columns_of query.now tables.now ≡ Ok columns.now → (result ≡ None) ↔ IsPossible query.now tables.now world.now }
+    ensures first { columns_of query.now tables.now ≡ Ok columns.now → IfSome result (IsFirstWrong query.now tables.now world.now) }
+    ensures walk { result ≡ spec.first_impossible tables.now world.now.tables 0 query.now.hypos columns.now }
 {
     first_impossible(
         query.hypos.as_slice(),
@@ -54,7 +57,18 @@ fn first_impossible(
         }
         from += end;
     }
-    None
+    surplus(world, hypos.len() as u32)
+}
+
+/// The number of the first table of a world behind so many, if there is one.
+fn surplus(world: &[WorldTable], number: u32) -> Option<u32>
+    ensures { result ≡ spec.surplus world.now number }
+{
+    if world.len() > number as usize {
+        Some(number)
+    } else {
+        None
+    }
 }
 
 /// The table of a hypothetical table in a world.

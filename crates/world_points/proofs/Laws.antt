@@ -1,6 +1,6 @@
--- what points tell of the worlds of a query: a world that is worth no more than any point is best, and where no point is worth
--- anything none meets
-use Rattle.std.proofs.Common.{◌≡◌, ℕ, suc, ℤ, ◌≤ℤ◌, ◌+◌, ◌<◌, Bool, true, false, List, [], ◌∷◌, length, get_or, refl, sym, ◌∙◌, ap, subst, arith, Option, Some, None, if◌then◌else◌}
+-- what points tell of the worlds of a query: a world that costs no more than any point is best, and where no point has a
+-- cost none meets
+use Rattle.std.proofs.Common.{◌≡◌, ℕ, ℤ, ◌≤ℤ◌, ◌<◌, Bool, true, false, List, [], ◌∷◌, length, get_or, refl, sym, ◌∙◌, ap, subst, arith, Option, Some, None, if◌then◌else◌}
 use Rattle.std.specs.Prelude.{neg_ℤ, MatchOption, IsSomeAnd, is_none, slice_get, unwrap_or, Ok, All, IsTrue}
 use Rattle.std.specs.List.{AllZip}
 use Rattle.std.specs.Ordering.{int_eq}
@@ -10,8 +10,7 @@ use Rattle.std.proofs.lemmas.Int.{ints}
 use Rattle.std.proofs.lemmas.Slice.Zip.{AllZip-left, AllZip-long}
 use Rattle.std.proofs.lemmas.Option.{slice_get_within}
 use Rattle.branch_tree.specs.Listing.{InBox, NoBetter}
-use Rattle.tables_csv.specs.QueryTables.{AreTables}
-use Rattle.tables_csv.specs.WholeTexts.{AreRowsOf, IsOfColumn}
+use Rattle.tiql_query.specs.Rows.{AreRowsOf, AreTables, IsOfColumn}
 use Rattle.tiql_query.specs.declared.relation.Column.{Column}
 use Rattle.tiql_query.specs.declared.relation.QTable.{QTable}
 use Rattle.tiql_query.specs.declared.relation.QHypo.{QHypo}
@@ -27,16 +26,12 @@ use Rattle.world_def.specs.Columns.{Rows, Tables, rows_of, columns_of}
 use Rattle.world_def.specs.Worlds.{first_impossible, tables_at}
 use Rattle.world_def.specs.Meaning.{IsPossible, Meets, IsBest, NoneMeets, Better, score}
 use Rattle.world_def.proofs.Choices.{columns_told}
-use Rattle.world_def.proofs.Restored.{and_parts, world_restored}
+use Rattle.world_def.proofs.Restored.{world_restored}
+use Rattle.std.proofs.lemmas.Bool.{and_parts}
 use Rattle.world_def.proofs.Runs.{possible_told, possible_passes}
 use Rattle.world_points.specs.Points as points
-use Rattle.world_points.specs.Points.{root, worth, is_met, value, value_at, is_of_world, has_numbers, numbers}
+use Rattle.world_points.specs.Points.{root, cost, is_met, world_cost, cost_at, is_of_world, has_numbers, numbers}
 use Rattle.world_points.proofs.Within.{HasCells, inside_box}
-
-tables_long : (tables : Tables) (hypos : List QHypo) (hypo : ℕ) (columns : List WorldColumn) (point : List ℤ) → length (tables_at tables hypo hypos columns point) ≡ length hypos
-unfolding tables_at
-tables_long tables [] hypo columns point = refl
-tables_long tables (table ∷ others) hypo columns point = ap suc (tables_long tables others (hypo + 1) _ _)
 
 none_is : (found : Option ℕ) → is_none found ≡ true → found ≡ None
 none_is None e = refl
@@ -58,18 +53,18 @@ module _ (query : Query) (tables : Tables) (columns : List WorldColumn) (made : 
   unfolding points.world_at
   possible_at point e =
       let parts = and_parts (is_none (first_impossible tables (tables_at tables 0 query.hypos columns point) 0 query.hypos columns)) (pointwise int_eq (numbers query tables columns (record { tables = tables_at tables 0 query.hypos columns point })) point) e in
-      possible_told query tables columns (record { tables = tables_at tables 0 query.hypos columns point }) (columns_told query tables columns made) (tables_long tables query.hypos 0 columns point) (none_is _ parts.0)
+      possible_told query tables columns (record { tables = tables_at tables 0 query.hypos columns point }) (columns_told query tables columns made) (none_is _ parts.0)
 
-  -- what a possible world is worth is what its numbers are worth
-  own_value : (world : World) → IsPossible query tables world → value_at query tables columns (numbers query tables columns world) ≡ value query tables world
-  unfolding value_at
-  own_value world p =
+  -- a possible world costs what its numbers do
+  own_cost : (world : World) → IsPossible query tables world → cost_at query tables columns (numbers query tables columns world) ≡ world_cost query tables world
+  unfolding cost_at
+  own_cost world p =
       let same = world_is world p in
       let own : is_of_world query tables columns (numbers query tables columns world) ≡ true = ap (λ (w : World). has_numbers query tables columns w (numbers query tables columns world)) same ∙ own_numbers world p in
-      rw own (ap (value query tables) same)
+      rw own (ap (world_cost query tables) same)
 
-meets_value : (query : Query) (tables : Tables) (world : World) → Meets query tables world → value query tables world ≡ Some (worth query.aim (score query.aim tables world))
-meets_value query tables world m = let met : is_met query tables world ≡ true = m in rw met refl
+meets_cost : (query : Query) (tables : Tables) (world : World) → Meets query tables world → world_cost query tables world ≡ Some (cost query.aim (score query.aim tables world))
+meets_cost query tables world m = let met : is_met query tables world ≡ true = m in rw met refl
 
 there_of : (columns : List Column) (n : ℕ) (found : Option Column) → slice_get columns n ≡ found → IsTrue (is_number (kind_at (columns ∷ []) (record { source = 0; column = n }))) → n < length columns
 unfolding kind_at
@@ -103,8 +98,8 @@ cells_there query tables fit are = λ k d lt. cells_of_hypo query tables (get_or
 turned_le : (m n : ℤ) → neg_ℤ m ≤ℤ neg_ℤ n → n ≤ℤ m
 turned_le m n e = omega (arith, ints)
 
-not_better : (aim : Aim) (m n : ℤ) → worth aim m ≤ℤ worth aim n → Better aim n m → ⊥
-unfolding worth
+not_better : (aim : Aim) (m n : ℤ) → cost aim m ≤ℤ cost aim n → Better aim n m → ⊥
+unfolding cost
 not_better aims.Find m n le b = b
 not_better (aims.Sum true source part) m n le b = let t = turned_le m n le in omega (arith, ints, t, b)
 not_better (aims.Sum false source part) m n le b = omega (arith, ints, le, b)
@@ -113,45 +108,45 @@ module _ (query : Query) (tables : Tables) (columns : List WorldColumn) (made : 
   pub own_inside : (world : World) → IsPossible query tables world → InBox (root columns) (numbers query tables columns world)
   own_inside world p = inside_box query tables columns world (columns_told query tables columns made) (cells_there query tables fit are) p
 
-  -- a possible world that meets, and is worth no more than any point, is best
+  -- a possible world that meets, and costs no more than any point, is best
   pub best_of : (world : World) → IsPossible query tables world → Meets query tables world
-      → ((other : List ℤ) → InBox (root columns) other → NoBetter (Some (worth query.aim (score query.aim tables world))) (value_at query tables columns other)) → IsBest query tables world
+      → ((other : List ℤ) → InBox (root columns) other → NoBetter (Some (cost query.aim (score query.aim tables world))) (cost_at query tables columns other)) → IsBest query tables world
   best_of world p m least = record {
     possible = p;
     meets = m;
     none_better = λ other q n better.
         let there = least (numbers query tables columns other) (own_inside other q) in
-        let value_is = own_value query tables columns made other q ∙ meets_value query tables other n in
-        let le : worth query.aim (score query.aim tables world) ≤ℤ worth query.aim (score query.aim tables other) =
-        subst (λ (v : Option ℤ). NoBetter (Some (worth query.aim (score query.aim tables world))) v) value_is there in
+        let cost_is = own_cost query tables columns made other q ∙ meets_cost query tables other n in
+        let le : cost query.aim (score query.aim tables world) ≤ℤ cost query.aim (score query.aim tables other) =
+        subst (λ (v : Option ℤ). NoBetter (Some (cost query.aim (score query.aim tables world))) v) cost_is there in
         not_better query.aim (score query.aim tables world) (score query.aim tables other) le better;
   }
 
-  -- where no point is worth anything, no possible world meets
-  pub none_there : ((other : List ℤ) → InBox (root columns) other → NoBetter None (value_at query tables columns other)) → NoneMeets query tables
+  -- where no point has a cost, no possible world meets
+  pub none_there : ((other : List ℤ) → InBox (root columns) other → NoBetter None (cost_at query tables columns other)) → NoneMeets query tables
   none_there none world p m =
-      let value_is = own_value query tables columns made world p ∙ meets_value query tables world m in
-      subst (λ (v : Option ℤ). NoBetter None v) value_is (none (numbers query tables columns world) (own_inside world p))
+      let cost_is = own_cost query tables columns made world p ∙ meets_cost query tables world m in
+      subst (λ (v : Option ℤ). NoBetter None v) cost_is (none (numbers query tables columns world) (own_inside world p))
 
-  world_meets : (world : World) (v : ℤ) → value query tables world ≡ Some v → Meets query tables world × (v ≡ worth query.aim (score query.aim tables world))
+  world_meets : (world : World) (v : ℤ) → world_cost query tables world ≡ Some v → Meets query tables world × (v ≡ cost query.aim (score query.aim tables world))
   world_meets world v = by_test (is_met query tables world) refl
     where
-      by_test : (b : Bool) → is_met query tables world ≡ b → (if b then Some (worth query.aim (score query.aim tables world)) else None) ≡ Some v → Meets query tables world × (v ≡ worth query.aim (score query.aim tables world))
+      by_test : (b : Bool) → is_met query tables world ≡ b → (if b then Some (cost query.aim (score query.aim tables world)) else None) ≡ Some v → Meets query tables world × (v ≡ cost query.aim (score query.aim tables world))
       by_test true t e = (t, cc)
       by_test false t e = absurd (let k : ◌≡◌ {A = Option ℤ} None (Some v) = e in cc)
 
-  point_meets : (point : List ℤ) (v : ℤ) → value_at query tables columns point ≡ Some v → IsPossible query tables (points.world_at query tables columns point) × Meets query tables (points.world_at query tables columns point) × (v ≡ worth query.aim (score query.aim tables (points.world_at query tables columns point)))
-  unfolding value_at
+  point_meets : (point : List ℤ) (v : ℤ) → cost_at query tables columns point ≡ Some v → IsPossible query tables (points.world_at query tables columns point) × Meets query tables (points.world_at query tables columns point) × (v ≡ cost query.aim (score query.aim tables (points.world_at query tables columns point)))
+  unfolding cost_at
   point_meets point v = by_test (is_of_world query tables columns point) refl
     where
-      by_test : (b : Bool) → is_of_world query tables columns point ≡ b → (if b then value query tables (points.world_at query tables columns point) else None) ≡ Some v
-          → IsPossible query tables (points.world_at query tables columns point) × Meets query tables (points.world_at query tables columns point) × (v ≡ worth query.aim (score query.aim tables (points.world_at query tables columns point)))
+      by_test : (b : Bool) → is_of_world query tables columns point ≡ b → (if b then world_cost query tables (points.world_at query tables columns point) else None) ≡ Some v
+          → IsPossible query tables (points.world_at query tables columns point) × Meets query tables (points.world_at query tables columns point) × (v ≡ cost query.aim (score query.aim tables (points.world_at query tables columns point)))
       by_test true t e = let met = world_meets (points.world_at query tables columns point) v e in (possible_at query tables columns made point t, met.0, met.1)
       by_test false t e = absurd (let k : ◌≡◌ {A = Option ℤ} None (Some v) = e in cc)
 
-  -- the world of a point that is worth no more than any point is best
-  pub best_there : (point : List ℤ) (v : ℤ) → value_at query tables columns point ≡ Some v → ((other : List ℤ) → InBox (root columns) other → NoBetter (Some v) (value_at query tables columns other))
-      → IsBest query tables (points.world_at query tables columns point) × (v ≡ worth query.aim (score query.aim tables (points.world_at query tables columns point)))
+  -- the world of a point that costs no more than any point is best
+  pub best_there : (point : List ℤ) (v : ℤ) → cost_at query tables columns point ≡ Some v → ((other : List ℤ) → InBox (root columns) other → NoBetter (Some v) (cost_at query tables columns other))
+      → IsBest query tables (points.world_at query tables columns point) × (v ≡ cost query.aim (score query.aim tables (points.world_at query tables columns point)))
   best_there point v is least =
       let is_there = point_meets point v is in
-      (best_of (points.world_at query tables columns point) is_there.0 is_there.1 (subst (λ (n : ℤ). (other : List ℤ) → InBox (root columns) other → NoBetter (Some n) (value_at query tables columns other)) is_there.2 least), is_there.2)
+      (best_of (points.world_at query tables columns point) is_there.0 is_there.1 (subst (λ (n : ℤ). (other : List ℤ) → InBox (root columns) other → NoBetter (Some n) (cost_at query tables columns other)) is_there.2 least), is_there.2)

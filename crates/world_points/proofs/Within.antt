@@ -22,7 +22,8 @@ use Rattle.world_def.specs.Values.{number}
 use Rattle.world_def.specs.Columns.{Rows, Tables, rows_of, presence_column}
 use Rattle.world_def.specs.Worlds.{leading, of_hypo, standing, count_of, column_at, is_between, fits_cell, row_fits, row_possible, number_in, rows_numbers, table_numbers, world_numbers}
 use Rattle.world_def.specs.Meaning.{may_change, cell_choice, presence_choice, choices, rows_choices, all_choices, rows_can, table_can, tables_can, IsPossible}
-use Rattle.world_def.proofs.Restored.{zero_value, and_parts, cells_stay, fits_at, numbers_there}
+use Rattle.world_def.proofs.Restored.{zero_value, cells_stay, fits_at, numbers_there}
+use Rattle.std.proofs.lemmas.Bool.{and_parts}
 use Rattle.world_def.proofs.Runs.{hypo_run}
 use Rattle.world_def.proofs.Walks.{same_number}
 use Rattle.world_points.specs.Points.{least, greatest, side, root}

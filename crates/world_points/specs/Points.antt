@@ -1,4 +1,4 @@
--- points: one number for each world column, which possible world they are, and what it is worth
+-- points: one number for each world column, which possible world they are, and its cost
 use Rattle.std.specs.Prelude.{◌≡◌, ℤ, pos, neg_ℤ, int_lt, Bool, ◌&&◌, if◌then◌else◌, List, map, Option, Some, None, is_none, Result, Ok, Err}
 use Rattle.std.specs.List.{list_all}
 use Rattle.std.specs.Ordering.{int_eq}
@@ -18,9 +18,11 @@ use Rattle.world_def.specs.Judging.{broken_from, score_asked, rows_in, source_of
 use Rattle.world_points.specs.declared.fault.PointFault.{PointFault}
 use Rattle.world_points.specs.declared.fault.PointFault.TheVariants as fault
 
+-- the lesser of two numbers
 abbrev pub least : ℤ → ℤ → ℤ
 least m n = if int_lt n m then n else m
 
+-- the greater of two numbers
 abbrev pub greatest : ℤ → ℤ → ℤ
 greatest m n = if int_lt m n then n else m
 
@@ -32,23 +34,23 @@ side column = if column.droppable then record { lo = least column.lo (pos 0); hi
 abbrev pub root : List WorldColumn → List Bounds
 root columns = map side columns
 
--- a score as it is compared: less is better
-unfoldable pub worth : Aim → ℤ → ℤ
-worth aims.Find n = n
-worth (aims.Sum maximize source part) n = if maximize then neg_ℤ n else n
+-- a score as a cost: less is better
+unfoldable pub cost : Aim → ℤ → ℤ
+cost aims.Find n = n
+cost (aims.Sum maximize source part) n = if maximize then neg_ℤ n else n
 
 -- the world meets what is required
 abbrev pub is_met : Query → Tables → World → Bool
 is_met query tables world = list_all (λ need. meaning.is_met need (rows_in tables world (source_of need))) query.requires_
 
--- what a world is worth, where it meets what is required
-abbrev pub value : Query → Tables → World → Option ℤ
-value query tables world = if is_met query tables world then Some (worth query.aim (meaning.score query.aim tables world)) else None
+-- the cost of a world, where it meets what is required
+abbrev pub world_cost : Query → Tables → World → Option ℤ
+world_cost query tables world = if is_met query tables world then Some (cost query.aim (meaning.score query.aim tables world)) else None
 
 -- the same as it is asked, up to the first value that is too large
 unfoldable pub judged : Query → Tables → World → Result (Option ℤ) EvalFault
 judged query tables world = and_then (broken_from tables world 1 query.requires_) (λ broken.
-    if is_none broken then and_then (score_asked tables world query.aim) (λ n. Ok (Some (worth query.aim n))) else Ok None)
+    if is_none broken then and_then (score_asked tables world query.aim) (λ n. Ok (Some (cost query.aim n))) else Ok None)
 
 -- the numbers of a world's columns
 abbrev pub numbers : Query → Tables → List WorldColumn → World → List ℤ
@@ -66,16 +68,16 @@ has_numbers query tables columns world point = is_none (first_impossible tables 
 abbrev pub is_of_world : Query → Tables → List WorldColumn → List ℤ → Bool
 is_of_world query tables columns point = has_numbers query tables columns (world_at query tables columns point) point
 
--- what a point is worth, where its numbers are those of a possible world that meets what is required
-unfoldable pub value_at : Query → Tables → List WorldColumn → List ℤ → Option ℤ
-value_at query tables columns point = if is_of_world query tables columns point then value query tables (world_at query tables columns point) else None
+-- the cost of a point, where its numbers are those of a possible world that meets what is required
+unfoldable pub cost_at : Query → Tables → List WorldColumn → List ℤ → Option ℤ
+cost_at query tables columns point = if is_of_world query tables columns point then world_cost query tables (world_at query tables columns point) else None
 
 -- the same as it is asked
 unfoldable pub judged_at : Query → Tables → List WorldColumn → List ℤ → Result (Option ℤ) EvalFault
 judged_at query tables columns point = if is_of_world query tables columns point then judged query tables (world_at query tables columns point) else Ok None
 
 -- this is what the asking comes to, unless memory is wanting
-abbrev pub Gives : {A : Type 0} → Result A EvalFault → Result A PointFault → Type 0
-Gives outcome (Ok a) = outcome ≡ Ok a
-Gives outcome (Err (fault.Eval told)) = outcome ≡ Err told
-Gives outcome (Err fault.Memory) = Unit {0}
+abbrev pub GivesCost : {A : Type 0} → Result A EvalFault → Result A PointFault → Type 0
+GivesCost outcome (Ok a) = outcome ≡ Ok a
+GivesCost outcome (Err (fault.Eval told)) = outcome ≡ Err told
+GivesCost outcome (Err fault.Memory) = Unit {0}

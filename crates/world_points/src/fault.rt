@@ -4,13 +4,13 @@ use base_kit::Memory;
 use thiserror::Error;
 use world_def::EvalFault;
 
-/// Why the world of a point was not judged.
+/// Why a point was not judged.
 #[derive(Clone, Copy, Debug, PartialEq, Eq, Error)]
 pub enum PointFault {
     /// A value of the world is too large, and this tells which.
     #[error("a value of the world is too large")]
     Eval(EvalFault),
-    /// There was not enough memory.
+    /// Out of memory.
     #[error("out of memory")]
     Memory,
 }

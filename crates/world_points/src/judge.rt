@@ -1,4 +1,4 @@
-//! What worlds are worth, and the points that are their numbers.
+//! The costs of worlds, and of the points that are their numbers.
 
 ghost use Rattle.std.specs.Prelude.{◌≡◌, ◌≤◌, ◌<◌, ◌^◌, length, unsigned_abs, IfOk};
 ghost use Rattle.world_def.specs.Columns.{IsSmall};
@@ -11,21 +11,21 @@ use std::alloc::Global;
 use tiql_query::{Aim, Query, WorldColumn};
 use world_def::{EvalFault, Tables, World, is_possible, meets, numbers_of, score, world_at};
 
-/// What a world is worth, and `None` where it does not meet what is required. The best worlds are worth least: under MAXIMIZE
-/// it is the score with the other sign (docs/MEANING.md, "Score").
+/// The cost of a world, and `None` where it does not meet what is required. Less is better: under MAXIMIZE the cost is the
+/// score with the other sign (docs/MEANING.md, "Score").
 ///
 /// The query has no view.
 pub fn judge_world(query: &Query, tables: &Tables, world: &World) -> Result<Option<i128>, EvalFault>
     requires small { IsSmallWorld tables.now world.now }
     requires count { length query.now.requires_ < 4294967295 }
     ensures asked { result ≡ spec.judged query.now tables.now world.now }
-    ensures value { IfOk result (λ worth. worth ≡ spec.value query.now tables.now world.now) }
+    ensures value { IfOk result (λ cost. cost ≡ spec.world_cost query.now tables.now world.now) }
 {
-    worth_of(query, tables, world)
+    cost_of(query, tables, world)
 }
 
 #[tactic(auto, unfolding(crate::specs::Points::judged))]
-fn worth_of(query: &Query, tables: &Tables, world: &World) -> Result<Option<i128>, EvalFault>
+fn cost_of(query: &Query, tables: &Tables, world: &World) -> Result<Option<i128>, EvalFault>
     requires small { IsSmallWorld tables.now world.now }
     requires count { length query.now.requires_ < 4294967295 }
     ensures { result ≡ spec.judged query.now tables.now world.now }
@@ -34,16 +34,16 @@ fn worth_of(query: &Query, tables: &Tables, world: &World) -> Result<Option<i128
         Some(_) => Ok(None),
         None => {
             let score = score(query, tables, world)?;
-            Ok(Some(worth(&query.aim, score)))
+            Ok(Some(cost(&query.aim, score)))
         }
     }
 }
 
 /// A score as it is compared: less is better.
-#[tactic(auto, unfolding(crate::specs::Points::worth))]
-pub fn worth(aim: &Aim, score: i128) -> i128
+#[tactic(auto, unfolding(crate::specs::Points::cost))]
+pub fn cost(aim: &Aim, score: i128) -> i128
     requires { unsigned_abs score ≤ 10 ^ 17 }
-    ensures { result ≡ spec.worth aim.now score }
+    ensures { result ≡ spec.cost aim.now score }
 {
     match aim {
         Aim::Find => score,
@@ -51,7 +51,7 @@ pub fn worth(aim: &Aim, score: i128) -> i128
     }
 }
 
-/// What the world of a point is worth, and `None` where the point's numbers are not those of a possible world, or that world does not
+/// The cost of a point's world, and `None` where the point's numbers are not those of a possible world, or that world does not
 /// meet what is required.
 ///
 /// The query has no view, the columns are those of `world_columns` for the same query and tables, and the point has a number for
@@ -67,7 +67,7 @@ pub fn judge_point(
     requires small { IsSmall query.now tables.now }
     requires count { length query.now.requires_ < 4294967295 }
     requires long { length point.now ≡ length columns.now }
-    ensures { spec.Gives (spec.judged_at query.now tables.now columns.now point.now) result }
+    ensures { spec.GivesCost (spec.judged_at query.now tables.now columns.now point.now) result }
 {
     let world = world_at(alloc, query, tables, columns, point)?;
     if !has_numbers(alloc, query, tables, columns, &world, point)? {

@@ -1,4 +1,4 @@
-//! Points: the numbers of a query's world columns, as points of a box, and what each of them is worth.
+//! Points: the numbers of a query's world columns, as points of a box, and the cost of each.
 #![tactic(auto)]
 
 mod fault;
@@ -6,5 +6,5 @@ mod judge;
 mod sides;
 
 pub use fault::PointFault;
-pub use judge::{judge_point, judge_world, worth};
+pub use judge::{cost, judge_point, judge_world};
 pub use sides::sides_of;

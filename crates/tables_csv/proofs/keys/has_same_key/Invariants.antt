@@ -1,5 +1,5 @@
 use Rattle.std.proofs.Common.{◌≡◌, take}
-use Rattle.tables_csv.specs.Keys.{key_of}
+use Rattle.tiql_query.specs.Keys.{key_of}
 use Rattle.tables_csv.proofs.keys.has_same_key.Given as goal
 
 abbrev pub invariant-loop-column : goal.invariant-loop-column

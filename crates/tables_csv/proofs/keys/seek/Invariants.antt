@@ -1,6 +1,6 @@
 use Rattle.std.proofs.Common.{length}
 use Rattle.tables_csv.specs.Chains.{Seeking}
-use Rattle.tables_csv.specs.Keys.{key_of}
+use Rattle.tiql_query.specs.Keys.{key_of}
 use Rattle.tables_csv.proofs.keys.seek.Given as goal
 
 abbrev pub invariant-chain : goal.invariant-chain

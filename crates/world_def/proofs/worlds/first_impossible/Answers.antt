@@ -14,4 +14,4 @@ loop-at-preserved c = record {
 }
 
 pub returns : goal.returns
-returns c = impossible_end c.args.tables.now c.args.world.now c.args.hypos.now _ c.loop-at.at _ (omega arith) c.loop-at.invariant.so_far
+returns c = impossible_end c.args.tables.now c.args.world.now c.args.hypos.now _ c.loop-at.at _ _ (omega arith) c.surplus.ensures c.loop-at.invariant.so_far

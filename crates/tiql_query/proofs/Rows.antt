@@ -7,9 +7,8 @@ use Rattle.std.specs.Prelude.{slice_get}
 use Rattle.base_kit.specs.declared.value.Value.{Value}
 use Rattle.tiql_query.specs.declared.query.Query.{Query}
 use Rattle.tiql_query.specs.declared.relation.QTable.{QTable}
-use Rattle.tables_csv.specs.Keys.{HaveDistinctKeys, key_at}
-use Rattle.tables_csv.specs.QueryTables.{AreTables}
-use Rattle.tables_csv.specs.WholeTexts.{AreRowsOf}
+use Rattle.tiql_query.specs.Keys.{HaveDistinctKeys, key_at}
+use Rattle.tiql_query.specs.Rows.{AreRowsOf, AreTables}
 
 few_each : (tables : List QTable) (lists : List (List (List Value))) → AllZip AreRowsOf tables lists → All (λ rows. length rows ≤ 200000) lists
 few_each [] [] are = All-nil (λ (rows : List (List Value)). length rows ≤ 200000)

@@ -2,16 +2,17 @@
 
 ghost use Rattle.std.specs.Prelude.{◌≡◌, ◌≤◌, length, All, IfOk};
 
-use crate::{
-    BoundsFault, Broken, Tables, Wide, is_possible, meets, number, numbers_of, score, world_at,
-    world_columns,
-};
 use base_kit::{Duplicate, List, Name, Row, Value};
 use std::alloc::Global;
 use std::test::Fail;
 use tiql_query::{
     Aim, At, Cmp, Column, Cond, Expr, QBound, QHypo, QTable, Query, Require, Source, WorldColumn,
 };
+use world_def::{
+    BoundsFault, Broken, Tables, Wide, is_possible, meets, number, numbers_of, score, world_at,
+    world_columns,
+};
+use world_points::{judge_point, sides_of};
 
 fn place(column: u32) -> Expr {
     Expr::Column(At { source: 0, column })
@@ -166,13 +167,20 @@ fn bounds_are_read_from_the_row(rt: HostRuntime) -> Result<(), Fail> {
     Ok(())
 }
 
-#[test]
-fn a_row_outside_where_stays(rt: HostRuntime) -> Result<(), Fail> {
-    let alloc = rt.alloc();
+/// The query of the next tests: `HYPO h FROM item SET qty IN 2 .. 3 WHERE id >= 2 DROP; REQUIRE SOME h HAVE qty = 3;`
+fn dropping(alloc: Global) -> Result<Query, Fail>
+    ensures { IfOk result (λ made. (length made.hypos ≡ 1) × (length made.requires_ ≡ 1)) }
+{
     let inside = Some(at_least(0, 2));
     let changed = hypo(alloc, Expr::Int(2), Expr::Int(3), inside, true)?;
     let three = Cond::Compare(Cmp::Eq, place(1), Expr::Int(3));
-    let query = query(alloc, changed, Require::Some(Source::Hypo(0), three))?;
+    query(alloc, changed, Require::Some(Source::Hypo(0), three))
+}
+
+#[test]
+fn a_row_outside_where_stays(rt: HostRuntime) -> Result<(), Fail> {
+    let alloc = rt.alloc();
+    let query = dropping(alloc)?;
     let tables = one_table(alloc, &[[1, 1], [2, 9]])?;
     let columns = world_columns(alloc, &query, &tables)?;
     assert_eq!(rt; columns.len(), 2);
@@ -183,6 +191,17 @@ fn a_row_outside_where_stays(rt: HostRuntime) -> Result<(), Fail> {
     assert_eq!(rt; score(&query, &tables, &whole), Ok(4));
     let numbers = numbers_of(alloc, &query, &tables, mine, &whole)?;
     assert_eq!(rt; numbers.as_slice(), [1, 3].as_slice());
+    Ok(())
+}
+
+#[test]
+fn a_row_that_is_left_out(rt: HostRuntime) -> Result<(), Fail> {
+    let alloc = rt.alloc();
+    let query = dropping(alloc)?;
+    let tables = one_table(alloc, &[[1, 1], [2, 9]])?;
+    let columns = world_columns(alloc, &query, &tables)?;
+    assert_eq!(rt; columns.len(), 2);
+    let mine = &columns;
     let dropped = world_at(alloc, &query, &tables, mine, &[0, 0])?;
     assert_eq!(rt; is_possible(&query, &tables, mine, &dropped), None);
     let broken = Broken {
@@ -191,6 +210,25 @@ fn a_row_outside_where_stays(rt: HostRuntime) -> Result<(), Fail> {
     };
     assert_eq!(rt; meets(&query, &tables, &dropped), Ok(Some(broken)));
     assert_eq!(rt; score(&query, &tables, &dropped), Ok(1));
+    Ok(())
+}
+
+#[test]
+fn points_of_worlds_are_judged(rt: HostRuntime) -> Result<(), Fail> {
+    let alloc = rt.alloc();
+    let query = dropping(alloc)?;
+    let tables = one_table(alloc, &[[1, 1], [2, 9]])?;
+    let columns = world_columns(alloc, &query, &tables)?;
+    assert_eq!(rt; columns.len(), 2);
+    let sides = sides_of(alloc, columns.as_slice())?;
+    assert_eq!(rt; sides.len(), 2);
+    let mine = &columns;
+    assert_eq!(rt;
+        judge_point(alloc, &query, &tables, mine, &[1, 3])?,
+        Some(4)
+    );
+    assert_eq!(rt; judge_point(alloc, &query, &tables, mine, &[1, 2])?, None);
+    assert_eq!(rt; judge_point(alloc, &query, &tables, mine, &[0, 3])?, None);
     Ok(())
 }
 
