@@ -66,19 +66,6 @@ cut_shorter mark bytes word after e =
     let split = cut_takes mark bytes (word, after) (sym e) in
     omega (arith, ap length split.0, length-append word (mark ∷ after))
 
--- a column has 32 bits
-pub column_of-bound : (least column : ℕ) (word : List ℕ) → Some column ≡ column_of least word → (column < 2 ^ 32) × (least ≤ column)
-unfolding column_of
-column_of-bound least column word e = by_number (number_of (2 ^ 32) word) (number_of-takes (2 ^ 32) word) e
-  where
-    by_number : (o : Option ℕ) → ((n : ℕ) → o ≡ Some n → (n < 2 ^ 32) × (word ≡ decimal n)) → Some column ≡ (o >>= λ n. cond (nat_lt n least) None (Some n)) → (column < 2 ^ 32) × (least ≤ column)
-    by_number None takes e = cc
-    by_number (Some n) takes e = by_test (nat_lt n least) refl (takes n refl).0 e
-      where
-        by_test : (b : Bool) → nat_lt n least ≡ b → n < 2 ^ 32 → Some column ≡ cond b None (Some n) → (column < 2 ^ 32) × (least ≤ column)
-        by_test true is low e = cc
-        by_test false is low e = let same : column ≡ n = cc in (omega arith, omega (arith, ltb-false n least is))
-
 -- the columns of a part, by what stands behind their first space
 pub columns_of-empty : (text columns : List ℕ) → true ≡ eqb (length text) 0 → columns ≡ [] → Some columns ≡ columns_of text
 unfolding columns_of

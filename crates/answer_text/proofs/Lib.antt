@@ -12,3 +12,6 @@ pub mod AnswerTexts
 pub mod Loops
 pub mod Picks
 pub mod Worlds
+pub mod Marks
+pub mod Spelled
+pub mod Written

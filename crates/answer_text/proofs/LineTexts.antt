@@ -90,9 +90,6 @@ signed_lacks mark below above (pos n) other apart low high within = decimal_lack
 signed_lacks mark below above (negsuc n) other apart low high within = rw apart (decimal_lacks mark (suc n) other (omega arith))
 
 -- how the words of a line are parted
-two_words : (word a b : List ℕ) → word ++ a ++ 32 ∷ [] ++ b ≡ word ++ (a ++ 32 ∷ b)
-two_words word a b = simp append_assoc
-
 three_words : (word a b c : List ℕ) → word ++ a ++ 32 ∷ [] ++ b ++ 32 ∷ [] ++ c ≡ word ++ (a ++ 32 ∷ (b ++ 32 ∷ c))
 three_words word a b c = simp append_assoc
 

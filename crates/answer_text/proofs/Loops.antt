@@ -6,7 +6,7 @@ use Rattle.branch_tree.specs.declared.node.Node.{Node}
 use Rattle.branch_tree.specs.declared.node.Node.TheVariants as node
 use Rattle.answer_text.specs.declared.blocks.Stop.{Stop}
 use Rattle.answer_text.specs.declared.blocks.Stop.TheVariants as stop
-use Rattle.answer_text.specs.Blocks.{◌>>=◌, Gives, joined, wanted_behind}
+use Rattle.answer_text.specs.Blocks.{◌>>=◌, ReadsAs, joined, wanted_behind}
 
 pub joined-nil : {A : Type 0} (r : Result (List A × List ℕ) ℕ) → joined [] r ≡ r
 joined-nil (Ok x) = refl
@@ -18,7 +18,7 @@ joined-item before more item (Ok x) pushed = ap (λ (l : List _). Ok (l ++ x.0, 
 joined-item before more item (Err left) pushed = refl
 
 -- a stop in an item is one in the whole
-pub stops_alike : {X Y Z W : Type 0} (view : X → Y) (other : Z → W) (at : Stop) (read : Result Y ℕ) (whole : Result W ℕ) → ((left : ℕ) → read ≡ Err left → whole ≡ Err left) → Gives view (Err at) read → Gives other (Err at) whole
+pub stops_alike : {X Y Z W : Type 0} (view : X → Y) (other : Z → W) (at : Stop) (read : Result Y ℕ) (whole : Result W ℕ) → ((left : ℕ) → read ≡ Err left → whole ≡ Err left) → ReadsAs view (Err at) read → ReadsAs other (Err at) whole
 stops_alike view other (stop.Bad left) read whole on gives = on left gives
 stops_alike view other stop.Memory read whole on gives = tt
 

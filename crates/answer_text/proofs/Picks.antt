@@ -5,8 +5,8 @@ use Rattle.std.proofs.lemmas.List.{get_or_append_left, get_or_push, get_or_read}
 use Rattle.std.proofs.lemmas.Grind.{same_number_lists}
 use Rattle.std.specs.Prelude.{slice_index_or}
 use Rattle.base_kit.specs.declared.value.Value.{Value}
-use Rattle.tables_csv.proofs.QueryTables.{key_one}
-use Rattle.tables_csv.specs.Keys.{HasKeyOf, HasNewKey, HaveDistinctKeys, key_at, key_of}
+use Rattle.tiql_query.proofs.Rows.{key_one}
+use Rattle.tiql_query.specs.Keys.{HasKeyOf, HasNewKey, HaveDistinctKeys, key_at, key_of}
 use Rattle.world_def.specs.Columns.{Rows}
 use Rattle.answer_text.specs.Worlds.{ArePicks, IsPick}
 

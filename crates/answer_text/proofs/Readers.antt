@@ -1,7 +1,7 @@
 -- Readers of bytes, which give a value and the bytes behind it, or else how many bytes are left from the begin of the line at
 -- fault on: what it means that a reader reads exactly the texts of its values, and how such readers join.
 use Rattle.std.proofs.Common.{◌≡◌, ◌⊎◌, inl, inr, ◌<◌, ◌≤◌, ℕ, zero, suc, Bool, true, false, not, cond, ◌&&◌, List, [], ◌∷◌, ◌++◌, length, refl, sym, ◌∙◌, ap, ap₂, subst, arith, append_assoc, length-append, eqb}
-use Rattle.std.proofs.lemmas.Bool.{false≢true, eqb-true, eq-eqb}
+use Rattle.std.proofs.lemmas.Bool.{false≢true, not-true, eqb-true, eq-eqb}
 use Rattle.std.proofs.lemmas.List.{append-nil}
 use Rattle.std.proofs.lemmas.List.Elements.{All-nil, All-cons}
 use Rattle.std.specs.Prelude.{Option, Some, None, is_some, Result, Ok, Err, All, flat_map}
@@ -291,10 +291,6 @@ begins-local (letter ∷ word) (byte ∷ common) one other h = by_test (eqb byte
     by_test true more = more
     by_test false more = refl
 
--- bytes that begin with a word
-pub begins-word : (word rest : List ℕ) → begins word (word ++ rest) ≡ true
-begins-word word rest = ap (λ (o : Option (List ℕ)). is_some o) (strip_again word rest)
-
 -- one reader where the bytes begin with a word, and else another, whose texts do not begin with it
 module _ {A : Type 0} (word : List ℕ) (one_line : lacks 10 word ≡ true) (text : A → List ℕ) (ends : List ℕ → Bool)
     (read : List ℕ → Result (A × List ℕ) ℕ) (meets : A → Type 0) (reads : Reads read text meets ends) (with_word : (value : A) (rest : List ℕ) → meets value → begins word (text value ++ rest) ≡ true)
@@ -361,10 +357,6 @@ module _ {A : Type 0} (word : List ℕ) (one_line : lacks 10 word ≡ true) (tex
         begun = at.begun;
         again = λ line tail other one line_is. either_false (at.front ++ (line ++ 10 ∷ other)) (keeps at.front line tail other bytes at.rest false at.split line_is is) ∙ at.again line tail other one line_is;
       }
-
-not_true : (b : Bool) → not b ≡ true → b ≡ false
-not_true true h = absurd (false≢true h)
-not_true false h = refl
 
 -- what is given is one thing
 pub ok_same : {B : Type 0} (x y : B) → ◌≡◌ {A = Result B ℕ} (Ok x) (Ok y) → x ≡ y
@@ -437,11 +429,6 @@ module _ {A : Type 0} (word : List ℕ) (one_line : lacks 10 word ≡ true) (som
   pub items_stop : (bytes : List ℕ) (left : ℕ) → begins word bytes ≡ true → item bytes ≡ Err left → items_at word item (length bytes) bytes ≡ Err left
   unfolding all_items one_more
   items_stop bytes left is e = unroll bytes ∙ rw (is, e)
-
-  -- bytes that begin with the word are some
-  begins_some : (bytes : List ℕ) → begins word bytes ≡ true → 0 < length bytes
-  begins_some [] is = absurd (false≢true (sym some_word ∙ is))
-  begins_some (byte ∷ bytes) is = omega arith
 
   -- the items that are read fit, their texts are the bytes, and no item follows
   record Took (bytes : List ℕ) (items : List A) (rest : List ℕ) : Type 0 where
@@ -558,7 +545,7 @@ module _ {A : Type 0} (word : List ℕ) (one_line : lacks 10 word ≡ true) (som
   pub reads_items : Reads (λ bytes. items_at word item (length bytes) bytes) (flat_map text) (All meets) (λ rest. not (begins word rest))
   reads_items = record {
     takes = λ bytes x e. let took = items_take (length bytes) bytes x (omega arith) e in (took.each, took.split, rw took.end);
-    gives = λ items rest each end. items_give items rest each (not_true (begins word rest) end);
+    gives = λ items rest each end. items_give items rest each (not-true (begins word rest) end);
     stops = λ bytes left e. items_stopped (length bytes) bytes left (omega arith) e;
     some = [];
     some_fits = All-nil meets;

@@ -2,14 +2,14 @@
 use Rattle.std.proofs.Common.{◌≡◌, ◌∙◌, ◌+◌, ◌<◌, ◌≤◌, ◌++◌, ℕ, zero, suc, inl, inr, List, [], ◌∷◌, Option, Some, None, ap, sym, refl, subst, arith, length, take}
 use Rattle.std.proofs.lemmas.Bool.{cases_lt}
 use Rattle.std.proofs.lemmas.List.{take_all, take_more}
-use Rattle.std.proofs.lemmas.Option.{get_or_from_slice_get, slice_get_past, slice_get_within}
+use Rattle.std.proofs.lemmas.Option.{get_or_from_slice_get, same_Some, slice_get_past, slice_get_within}
 use Rattle.std.specs.Prelude.{slice_get}
 use Rattle.tiql_query.specs.declared.query.Query.{Query}
 use Rattle.tiql_query.specs.declared.relation.QHypo.{QHypo}
 use Rattle.tiql_query.specs.declared.relation.QTable.{QTable}
 use Rattle.tables_csv.proofs.Outcomes.{table_one}
-use Rattle.tables_csv.proofs.QueryTables.{table_has_rows}
-use Rattle.tables_csv.specs.QueryTables.{AreTables}
+use Rattle.tiql_query.proofs.Rows.{table_has_rows}
+use Rattle.tiql_query.specs.Rows.{AreTables}
 use Rattle.tables_csv.specs.WholeTables.{IsTableOf}
 use Rattle.world_def.specs.Columns.{Rows, Tables, rows_of}
 use Rattle.world_def.specs.declared.world.World.{World}
@@ -21,9 +21,6 @@ use Rattle.answer_text.specs.Worlds.{ArePicks, AreSections, Finds, IsFirstWrong,
 use Rattle.answer_text.proofs.Picks.{picks_one}
 
 -- ---- one section
-
-same_some : {A : Type 0} (x y : A) (o : Option A) → o ≡ Some x → o ≡ Some y → x ≡ y
-same_some x y o one other = cc
 
 base_is_there : (tables : Tables) (n : ℕ) (base : Rows) → slice_get tables n ≡ Some base → rows_of tables n ≡ base
 unfolding rows_of
@@ -44,7 +41,7 @@ module _ (query : Query) (tables : Tables) (are : AreTables query tables) (hypo 
     pub base_few : length base ≤ 200000
     base_few =
         let has = table_has_rows query tables hypo.table table are there in
-        let same : has.0 ≡ base = same_some has.0 base (slice_get tables hypo.table) has.1 rows in
+        let same : has.0 ≡ base = same_Some has.0 base (sym has.1 ∙ rows) in
         subst (λ (r : Rows). length r ≤ 200000) same has.2.few
 
     base_is : rows_of tables hypo.table ≡ base
@@ -55,7 +52,7 @@ module _ (query : Query) (tables : Tables) (are : AreTables query tables) (hypo 
 
     section_only : (found : WorldTable) → IsSectionOf query tables hypo section found → IsSection hypo.name table base section found
     section_only found is =
-        let same : is.table ≡ table = same_some is.table table (slice_get query.tables hypo.table) is.there there in
+        let same : is.table ≡ table = same_Some is.table table (sym is.there ∙ there) in
         subst (λ (r : Rows). IsSection hypo.name table r section found) base_is (subst (λ (t : QTable). IsSection hypo.name t (rows_of tables hypo.table) section found) same is.right)
 
     pub section_found : (found : Option WorldTable) → Finds (IsSection hypo.name table base section) found → Finds (IsSectionOf query tables hypo section) found
@@ -109,12 +106,7 @@ module _ (query : Query) (tables : Tables) where
 module _ (query : Query) (tables : Tables) (sections : List WorldText) (number : ℕ) (before : List WorldTable)
     (right : AreSections query tables (take number query.hypos) (take number sections) before) (hypo : QHypo) (hypo_is : slice_get query.hypos number ≡ Some hypo) where
   pub missing : slice_get sections number ≡ None → IsFirstWrong query tables sections number
-  missing none =
-      record { before = before; right = right; wrong = rw (hypo_is, none) tt }
-
-  pub not_right : (section : WorldText) → slice_get sections number ≡ Some section → ((found : WorldTable) → IsSectionOf query tables hypo section found → ⊥)
-      → IsFirstWrong query tables sections number
-  not_right section there wrong = record { before = before; right = right; wrong = rw (hypo_is, there) wrong }
+  missing none = record { before = before; right = right; wrong = rw (hypo_is, none) tt }
 
 within_some : {A : Type 0} (xs : List A) (n : ℕ) → n < length xs → slice_get xs n ≡ None → ⊥
 within_some [] n less none = absurd (omega arith)
@@ -160,29 +152,10 @@ module _ (query : Query) (tables : Tables) where
   world_no_fault sections world (fault.NoTable number) is wrong = wrong_nowhere query.hypos sections world.tables number is wrong.wrong
   world_no_fault sections world fault.Memory is wrong = wrong
 
-  slice_get-take : {A : Type 0} (xs : List A) (n m : ℕ) → n < m → slice_get (take m xs) n ≡ slice_get xs n
-  slice_get-take [] n zero less = absurd (omega arith)
-  slice_get-take [] n (suc m) less = refl
-  slice_get-take (x ∷ xs) n zero less = absurd (omega arith)
-  slice_get-take (x ∷ xs) zero (suc m) less = refl
-  slice_get-take (x ∷ xs) (suc n) (suc m) less = slice_get-take xs n m (omega arith)
-
-  not_before : (sections : List WorldText) (one other : ℕ) → IsFirstWrong query tables sections one → IsFirstWrong query tables sections other → one < other → ⊥
-  not_before sections one other first second less =
-      wrong_nowhere (take other query.hypos) (take other sections) second.before one second.right
-      (subst (λ (h : Option QHypo). IsWrong query tables h (slice_get (take other sections) one)) (sym (slice_get-take query.hypos one other less))
-      (subst (λ (s : Option WorldText). IsWrong query tables (slice_get query.hypos one) s) (sym (slice_get-take sections one other less)) first.wrong))
-
-  pub first_wrong-one : (sections : List WorldText) (one other : ℕ) → IsFirstWrong query tables sections one → IsFirstWrong query tables sections other → one ≡ other
-  first_wrong-one sections one other first second = elim (cases_lt one other) as (λ _. one ≡ other) [
-    | inl less ↦ absurd (not_before sections one other first second less)
-    | inr past ↦ elim (cases_lt other one) as (λ _. one ≡ other) [ inl less ↦ absurd (not_before sections other one second first less) | inr more ↦ omega arith ]
-  ]
-
   section_one : (are : AreTables query tables) (hypo : QHypo) (section : WorldText) (one other : WorldTable) → IsSectionOf query tables hypo section one
       → IsSectionOf query tables hypo section other → one ≡ other
   section_one are hypo section one other first second =
-      let same : second.table ≡ first.table = same_some second.table first.table (slice_get query.tables hypo.table) second.there first.there in
+      let same : second.table ≡ first.table = same_Some second.table first.table (sym second.there ∙ first.there) in
       let right = subst (λ (t : QTable). IsSection hypo.name t (rows_of tables hypo.table) section other) same second.right in
       let has = table_has_rows query tables hypo.table first.table are first.there in
       let rows : one.rows ≡ other.rows = table_one section.bytes first.table one.rows other.rows first.right.rows right.rows in

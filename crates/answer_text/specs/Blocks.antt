@@ -27,11 +27,11 @@ abbrev pub told : {A : Type 0} → ℕ → Option A → Result A ℕ
 told left None = Err left
 told left (Some x) = Ok x
 
--- what a function returned, seen by view, is what reading gives, unless memory was wanting
-abbrev pub Gives : {X Y : Type 0} → (X → Y) → Result X Stop → Result Y ℕ → Type 0
-Gives view (Ok x) read = read ≡ Ok (view x)
-Gives view (Err (stop.Bad left)) read = read ≡ Err left
-Gives view (Err stop.Memory) read = Unit {0}
+-- what a function returned, seen by view, is what reading gives, unless memory ran out
+abbrev pub ReadsAs : {X Y : Type 0} → (X → Y) → Result X Stop → Result Y ℕ → Type 0
+ReadsAs view (Ok x) read = read ≡ Ok (view x)
+ReadsAs view (Err (stop.Bad left)) read = read ≡ Err left
+ReadsAs view (Err stop.Memory) read = Unit {0}
 
 -- the items that were read before, and those that are read now
 abbrev pub joined : {A : Type 0} → List A → Result (List A × List ℕ) ℕ → Result (List A × List ℕ) ℕ
@@ -79,6 +79,7 @@ world_at bytes = do
   section ← section_at head.0.size head.1
   Ok (record { name = head.0.name; rows = head.0.rows; bytes = section.0 }, section.1)
 
+-- the sections with which the bytes begin
 unfoldable pub worlds_at : List ℕ → Result (List WorldText × List ℕ) ℕ
 worlds_at bytes = items_at (codes "world ") world_at (length bytes) bytes
 
@@ -108,6 +109,7 @@ part_at bytes = do
   tree ← nodes_at best.1
   Ok (record { number = head.0.number; columns = head.0.columns; best = best.0; tree = tree.0 }, tree.1)
 
+-- the parts with which the bytes begin
 unfoldable pub parts_at : List ℕ → Result (List PartAnswer × List ℕ) ℕ
 parts_at bytes = items_at (codes "part ") part_at (length bytes) bytes
 
@@ -115,6 +117,7 @@ parts_at bytes = items_at (codes "part ") part_at (length bytes) bytes
 abbrev pub end_at : List ℕ → Result (Unit {0} × List ℕ) ℕ
 end_at = read_line (is_word (codes "end"))
 
+-- what an optimal answer carries: its sections and its parts, up to the last line
 unfoldable pub optimal_at : ℤ → List ℕ → Result (Verdict × List ℕ) ℕ
 optimal_at objective bytes = do
   worlds ← worlds_at bytes
@@ -122,18 +125,21 @@ optimal_at objective bytes = do
   end ← end_at parts.1
   Ok (verdict.Optimal objective worlds.0 parts.0, end.1)
 
+-- the parts of an unfinished answer, up to the last line
 unfoldable pub unfinished_at : ℕ → List ℕ → Result (Verdict × List ℕ) ℕ
 unfinished_at nodes bytes = do
   parts ← parts_at bytes
   end ← end_at parts.1
   Ok (verdict.Unfinished nodes parts.0, end.1)
 
+-- the false row of an impossible answer, up to the last line
 unfoldable pub false_row_at : List ℕ → Result (Verdict × List ℕ) ℕ
 false_row_at bytes = do
   row ← read_line row_of bytes
   end ← end_at row.1
   Ok (verdict.FalseRow row.0, end.1)
 
+-- the part without a whole point of an impossible answer, up to the last line
 unfoldable pub no_world_at : List ℕ → Result (Verdict × List ℕ) ℕ
 no_world_at bytes = do
   part ← part_at bytes

@@ -30,9 +30,11 @@ either (Some x) f other = f x
 abbrev pub when : {Y : Type 0} → List ℕ → List ℕ → Y → Option Y
 when text word y = if bytes_eq text word then Some y else None
 
+-- the line of the verdict that no world will do
 abbrev pub impossible_of : List ℕ → Option Head
 impossible_of text = when text (codes "impossible") head.Impossible
 
+-- the line of a verdict that is not optimal
 unfoldable pub other_head_of : List ℕ → Option Head
 other_head_of text = either (strip (codes "unfinished ") text) (λ nodes. option_map head.Unfinished (number_of (2 ^ 32) nodes)) (impossible_of text)
 
@@ -82,6 +84,7 @@ best_word word = if bytes_eq word (codes "none") then Some None else option_map 
 unfoldable pub best_of : List ℕ → Option (Option ℤ)
 best_of text = strip (codes "best ") text >>= best_word
 
+-- the reason of a split
 abbrev pub reason_of : List ℕ → Option Reason
 reason_of word = when word (codes "plain") reason.Plain
 

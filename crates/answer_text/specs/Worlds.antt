@@ -4,7 +4,7 @@ use Rattle.base_kit.specs.declared.value.Value.{Value}
 use Rattle.tiql_query.specs.declared.query.Query.{Query}
 use Rattle.tiql_query.specs.declared.relation.QHypo.{QHypo}
 use Rattle.tiql_query.specs.declared.relation.QTable.{QTable}
-use Rattle.tables_csv.specs.Keys.{key_at, key_of}
+use Rattle.tiql_query.specs.Keys.{key_at, key_of}
 use Rattle.tables_csv.specs.WholeTables.{IsTableOf}
 use Rattle.world_def.specs.declared.world.World.{World}
 use Rattle.world_def.specs.declared.world.WorldTable.{WorldTable}

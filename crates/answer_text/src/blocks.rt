@@ -18,7 +18,7 @@ use std::alloc::{AllocError, Global};
 pub enum Stop {
     /// No answer has such a line: so many bytes are left from its begin on.
     Bad { left: usize },
-    /// There was not enough memory.
+    /// Memory ran out.
     Memory,
 }
 
@@ -50,7 +50,7 @@ impl From<AllocError> for Stop {
 #[tactic(auto, unfolding(crate::specs::Blocks::whole_at))]
 pub fn whole(alloc: Global, bytes: &[u8]) -> Result<Answer, Stop>
     requires { length bytes.now < 2 ^ 32 }
-    ensures { spec.Gives (λ x. x) result (spec.whole_at bytes.now) }
+    ensures { spec.ReadsAs (λ x. x) result (spec.whole_at bytes.now) }
 {
     let (answer, rest) = answer(alloc, bytes)?;
     if !rest.is_empty() {
@@ -62,7 +62,7 @@ pub fn whole(alloc: Global, bytes: &[u8]) -> Result<Answer, Stop>
 #[tactic(auto, unfolding(crate::specs::Blocks::answer_at))]
 fn answer(alloc: Global, bytes: &[u8]) -> Result<(Answer, &[u8]), Stop>
     requires { length bytes.now < 2 ^ 32 }
-    ensures { spec.Gives (λ x. (x.0, x.1.now)) result (spec.answer_at bytes.now) }
+    ensures { spec.ReadsAs (λ x. (x.0, x.1.now)) result (spec.answer_at bytes.now) }
 {
     let rest = word_line(bytes, b"tiresias answer 1")?;
     let (head, rest) = head(rest)?;
@@ -88,7 +88,7 @@ fn answer(alloc: Global, bytes: &[u8]) -> Result<(Answer, &[u8]), Stop>
 #[tactic(auto, unfolding(crate::specs::Blocks::found_at))]
 fn found(alloc: Global, head: Head, bytes: &[u8]) -> Result<(Verdict, &[u8]), Stop>
     requires { length bytes.now < 2 ^ 32 }
-    ensures { spec.Gives (λ x. (x.0, x.1.now)) result (spec.found_at head bytes.now) }
+    ensures { spec.ReadsAs (λ x. (x.0, x.1.now)) result (spec.found_at head bytes.now) }
 {
     match head {
         Head::Optimal { objective } => optimal(alloc, objective, bytes),
@@ -100,7 +100,7 @@ fn found(alloc: Global, head: Head, bytes: &[u8]) -> Result<(Verdict, &[u8]), St
 #[tactic(auto, unfolding(crate::specs::Blocks::optimal_at))]
 fn optimal(alloc: Global, objective: i64, bytes: &[u8]) -> Result<(Verdict, &[u8]), Stop>
     requires { length bytes.now < 2 ^ 32 }
-    ensures { spec.Gives (λ x. (x.0, x.1.now)) result (spec.optimal_at objective bytes.now) }
+    ensures { spec.ReadsAs (λ x. (x.0, x.1.now)) result (spec.optimal_at objective bytes.now) }
 {
     let (worlds, rest) = worlds(alloc, bytes)?;
     let (parts, rest) = parts(alloc, rest)?;
@@ -118,7 +118,7 @@ fn optimal(alloc: Global, objective: i64, bytes: &[u8]) -> Result<(Verdict, &[u8
 #[tactic(auto, unfolding(crate::specs::Blocks::unfinished_at))]
 fn unfinished(alloc: Global, nodes: u32, bytes: &[u8]) -> Result<(Verdict, &[u8]), Stop>
     requires { length bytes.now < 2 ^ 32 }
-    ensures { spec.Gives (λ x. (x.0, x.1.now)) result (spec.unfinished_at nodes bytes.now) }
+    ensures { spec.ReadsAs (λ x. (x.0, x.1.now)) result (spec.unfinished_at nodes bytes.now) }
 {
     let (parts, rest) = parts(alloc, bytes)?;
     let rest = word_line(rest, b"end")?;
@@ -128,7 +128,7 @@ fn unfinished(alloc: Global, nodes: u32, bytes: &[u8]) -> Result<(Verdict, &[u8]
 #[tactic(auto, unfolding(crate::specs::Blocks::impossible_at))]
 fn impossible(alloc: Global, bytes: &[u8]) -> Result<(Verdict, &[u8]), Stop>
     requires { length bytes.now < 2 ^ 32 }
-    ensures { spec.Gives (λ x. (x.0, x.1.now)) result (spec.impossible_at bytes.now) }
+    ensures { spec.ReadsAs (λ x. (x.0, x.1.now)) result (spec.impossible_at bytes.now) }
 {
     if begins(bytes, b"row ") {
         false_row(bytes)
@@ -139,7 +139,7 @@ fn impossible(alloc: Global, bytes: &[u8]) -> Result<(Verdict, &[u8]), Stop>
 
 #[tactic(auto, unfolding(crate::specs::Blocks::false_row_at))]
 fn false_row(bytes: &[u8]) -> Result<(Verdict, &[u8]), Stop>
-    ensures { spec.Gives (λ x. (x.0, x.1.now)) result (spec.false_row_at bytes.now) }
+    ensures { spec.ReadsAs (λ x. (x.0, x.1.now)) result (spec.false_row_at bytes.now) }
 {
     let (row, rest) = row(bytes)?;
     let rest = word_line(rest, b"end")?;
@@ -149,7 +149,7 @@ fn false_row(bytes: &[u8]) -> Result<(Verdict, &[u8]), Stop>
 #[tactic(auto, unfolding(crate::specs::Blocks::no_world_at))]
 fn no_world(alloc: Global, bytes: &[u8]) -> Result<(Verdict, &[u8]), Stop>
     requires { length bytes.now < 2 ^ 32 }
-    ensures { spec.Gives (λ x. (x.0, x.1.now)) result (spec.no_world_at bytes.now) }
+    ensures { spec.ReadsAs (λ x. (x.0, x.1.now)) result (spec.no_world_at bytes.now) }
 {
     let (part, rest) = part(alloc, bytes)?;
     let rest = word_line(rest, b"end")?;
@@ -158,7 +158,7 @@ fn no_world(alloc: Global, bytes: &[u8]) -> Result<(Verdict, &[u8]), Stop>
 
 /// The sections of worlds that the bytes begin with.
 fn worlds(alloc: Global, bytes: &[u8]) -> Result<(List<WorldText>, &[u8]), Stop>
-    ensures { spec.Gives (λ x. (x.0, x.1.now)) result (spec.worlds_at bytes.now) }
+    ensures { spec.ReadsAs (λ x. (x.0, x.1.now)) result (spec.worlds_at bytes.now) }
 {
     let mut worlds = List::new(alloc);
     let mut rest = bytes;
@@ -173,7 +173,7 @@ fn worlds(alloc: Global, bytes: &[u8]) -> Result<(List<WorldText>, &[u8]), Stop>
 /// The section of a hypothetical table.
 #[tactic(auto, unfolding(crate::specs::Blocks::world_at))]
 fn world(alloc: Global, bytes: &[u8]) -> Result<(WorldText, &[u8]), Stop>
-    ensures { spec.Gives (λ x. (x.0, x.1.now)) result (spec.world_at bytes.now) }
+    ensures { spec.ReadsAs (λ x. (x.0, x.1.now)) result (spec.world_at bytes.now) }
 {
     let (head, rest) = world_head(alloc, bytes)?;
     let WorldHead { name, rows, size } = head;
@@ -184,7 +184,7 @@ fn world(alloc: Global, bytes: &[u8]) -> Result<(WorldText, &[u8]), Stop>
 
 /// So many bytes, or a stop at the end where there are fewer.
 fn section(bytes: &[u8], size: u32) -> Result<(&[u8], &[u8]), Stop>
-    ensures { spec.Gives (λ x. (x.0.now, x.1.now)) result (spec.section_at size bytes.now) }
+    ensures { spec.ReadsAs (λ x. (x.0.now, x.1.now)) result (spec.section_at size bytes.now) }
 {
     let size = size as usize;
     if bytes.len() < size {
@@ -196,7 +196,7 @@ fn section(bytes: &[u8], size: u32) -> Result<(&[u8], &[u8]), Stop>
 /// The parts that the bytes begin with.
 fn parts(alloc: Global, bytes: &[u8]) -> Result<(List<PartAnswer>, &[u8]), Stop>
     requires { length bytes.now < 2 ^ 32 }
-    ensures { spec.Gives (λ x. (x.0, x.1.now)) result (spec.parts_at bytes.now) }
+    ensures { spec.ReadsAs (λ x. (x.0, x.1.now)) result (spec.parts_at bytes.now) }
 {
     let mut parts = List::new(alloc);
     let mut rest = bytes;
@@ -212,7 +212,7 @@ fn parts(alloc: Global, bytes: &[u8]) -> Result<(List<PartAnswer>, &[u8]), Stop>
 #[tactic(auto, unfolding(crate::specs::Blocks::part_at))]
 fn part(alloc: Global, bytes: &[u8]) -> Result<(PartAnswer, &[u8]), Stop>
     requires { length bytes.now < 2 ^ 32 }
-    ensures { spec.Gives (λ x. (x.0, x.1.now)) result (spec.part_at bytes.now) }
+    ensures { spec.ReadsAs (λ x. (x.0, x.1.now)) result (spec.part_at bytes.now) }
 {
     let (head, rest) = part_head(alloc, bytes)?;
     let (best, rest) = best(rest)?;
@@ -232,7 +232,7 @@ fn part(alloc: Global, bytes: &[u8]) -> Result<(PartAnswer, &[u8]), Stop>
 /// One whole tree.
 fn tree(alloc: Global, bytes: &[u8]) -> Result<(Branches, &[u8]), Stop>
     requires { length bytes.now < 2 ^ 32 }
-    ensures { spec.Gives (λ x. (x.0, x.1.now)) result (spec.nodes_at bytes.now) }
+    ensures { spec.ReadsAs (λ x. (x.0, x.1.now)) result (spec.nodes_at bytes.now) }
 {
     let (nodes, rest) = nodes(alloc, bytes)?;
     match Branches::from_nodes(nodes) {
@@ -244,7 +244,7 @@ fn tree(alloc: Global, bytes: &[u8]) -> Result<(Branches, &[u8]), Stop>
 /// The nodes of one whole tree in preorder, by counting the trees that are still wanted.
 fn nodes(alloc: Global, bytes: &[u8]) -> Result<(List<Node>, &[u8]), Stop>
     requires { length bytes.now < 2 ^ 32 }
-    ensures { spec.Gives (λ x. (x.0, x.1.now)) result (spec.nodes_at bytes.now) }
+    ensures { spec.ReadsAs (λ x. (x.0, x.1.now)) result (spec.nodes_at bytes.now) }
 {
     let mut nodes = List::new(alloc);
     let mut wanted: usize = 1;
@@ -271,7 +271,7 @@ fn wanted_behind(node: &Node, wanted: usize) -> usize
 }
 
 fn head(bytes: &[u8]) -> Result<(Head, &[u8]), Stop>
-    ensures { spec.Gives (λ x. (x.0, x.1.now)) result (spec.read_line spec.head_of bytes.now) }
+    ensures { spec.ReadsAs (λ x. (x.0, x.1.now)) result (spec.read_line spec.head_of bytes.now) }
 {
     let (text, rest) = line_at(bytes)?;
     let head = head_of(text).ok_or(bad(bytes))?;
@@ -279,7 +279,7 @@ fn head(bytes: &[u8]) -> Result<(Head, &[u8]), Stop>
 }
 
 fn sizes(bytes: &[u8]) -> Result<(Sizes, &[u8]), Stop>
-    ensures { spec.Gives (λ x. (x.0, x.1.now)) result (spec.read_line spec.sizes_of bytes.now) }
+    ensures { spec.ReadsAs (λ x. (x.0, x.1.now)) result (spec.read_line spec.sizes_of bytes.now) }
 {
     let (text, rest) = line_at(bytes)?;
     let sizes = sizes_of(text).ok_or(bad(bytes))?;
@@ -287,7 +287,7 @@ fn sizes(bytes: &[u8]) -> Result<(Sizes, &[u8]), Stop>
 }
 
 fn row(bytes: &[u8]) -> Result<(u32, &[u8]), Stop>
-    ensures { spec.Gives (λ x. (x.0, x.1.now)) result (spec.read_line spec.row_of bytes.now) }
+    ensures { spec.ReadsAs (λ x. (x.0, x.1.now)) result (spec.read_line spec.row_of bytes.now) }
 {
     let (text, rest) = line_at(bytes)?;
     let row = row_of(text).ok_or(bad(bytes))?;
@@ -295,7 +295,7 @@ fn row(bytes: &[u8]) -> Result<(u32, &[u8]), Stop>
 }
 
 fn best(bytes: &[u8]) -> Result<(Option<i128>, &[u8]), Stop>
-    ensures { spec.Gives (λ x. (x.0, x.1.now)) result (spec.read_line spec.best_of bytes.now) }
+    ensures { spec.ReadsAs (λ x. (x.0, x.1.now)) result (spec.read_line spec.best_of bytes.now) }
 {
     let (text, rest) = line_at(bytes)?;
     let best = best_of(text).ok_or(bad(bytes))?;
@@ -303,7 +303,7 @@ fn best(bytes: &[u8]) -> Result<(Option<i128>, &[u8]), Stop>
 }
 
 fn node(bytes: &[u8]) -> Result<(Node, &[u8]), Stop>
-    ensures { spec.Gives (λ x. (x.0, x.1.now)) result (spec.read_line spec.node_of bytes.now) }
+    ensures { spec.ReadsAs (λ x. (x.0, x.1.now)) result (spec.read_line spec.node_of bytes.now) }
 {
     let (text, rest) = line_at(bytes)?;
     let node = node_of(text).ok_or(bad(bytes))?;
@@ -311,7 +311,7 @@ fn node(bytes: &[u8]) -> Result<(Node, &[u8]), Stop>
 }
 
 fn world_head(alloc: Global, bytes: &[u8]) -> Result<(WorldHead, &[u8]), Stop>
-    ensures { spec.Gives (λ x. (x.0, x.1.now)) result (spec.read_line spec.world_head_of bytes.now) }
+    ensures { spec.ReadsAs (λ x. (x.0, x.1.now)) result (spec.read_line spec.world_head_of bytes.now) }
 {
     let (text, rest) = line_at(bytes)?;
     let head = world_head_of(alloc, text)?.ok_or(bad(bytes))?;
@@ -319,7 +319,7 @@ fn world_head(alloc: Global, bytes: &[u8]) -> Result<(WorldHead, &[u8]), Stop>
 }
 
 fn part_head(alloc: Global, bytes: &[u8]) -> Result<(PartHead, &[u8]), Stop>
-    ensures { spec.Gives (λ x. (x.0, x.1.now)) result (spec.read_line spec.part_head_of bytes.now) }
+    ensures { spec.ReadsAs (λ x. (x.0, x.1.now)) result (spec.read_line spec.part_head_of bytes.now) }
 {
     let (text, rest) = line_at(bytes)?;
     let head = part_head_of(alloc, text)?.ok_or(bad(bytes))?;
@@ -328,7 +328,7 @@ fn part_head(alloc: Global, bytes: &[u8]) -> Result<(PartHead, &[u8]), Stop>
 
 /// What follows a line that is this word.
 fn word_line<'a>(bytes: &'a [u8], word: &[u8]) -> Result<&'a [u8], Stop>
-    ensures { spec.Gives (λ rest. (tt, rest.now)) result (spec.read_line (spec.is_word word.now) bytes.now) }
+    ensures { spec.ReadsAs (λ rest. (tt, rest.now)) result (spec.read_line (spec.is_word word.now) bytes.now) }
 {
     let (text, rest) = line_at(bytes)?;
     if text == word {
@@ -340,7 +340,7 @@ fn word_line<'a>(bytes: &'a [u8], word: &[u8]) -> Result<&'a [u8], Stop>
 
 /// The line at the head of the bytes, without its end, and what follows it.
 fn line_at(bytes: &[u8]) -> Result<(&[u8], &[u8]), Stop>
-    ensures { spec.Gives (λ x. (x.0.now, x.1.now)) result (spec.line_at bytes.now) }
+    ensures { spec.ReadsAs (λ x. (x.0.now, x.1.now)) result (spec.line_at bytes.now) }
 {
     cut(bytes, b'\n').ok_or(bad(bytes))
 }

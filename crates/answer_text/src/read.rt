@@ -17,21 +17,21 @@ pub enum AnswerFault {
     /// begin no answer, or the one in which they end where they begin an answer to their end (docs/ANSWERS.md).
     #[error("no answer from line {line} on")]
     BadAnswer { line: u32 },
-    /// There was not enough memory.
+    /// Memory ran out.
     #[error("out of memory")]
     Memory,
 }
 
 /// The one answer whose text the bytes are.
 ///
-/// The bytes are fewer than 2^32 - 1. They are gone over once, and once more up to the line at fault (docs/ANSWERS.md).
+/// The bytes are fewer than 2^32 - 1 (docs/ANSWERS.md).
 pub fn read_answer(alloc: Global, bytes: &[u8]) -> Result<Answer, AnswerFault>
     requires { length bytes.now + 1 < 2 ^ 32 }
 
     // What is read has these bytes as its text.
     ensures text { IfOk result (λ answer. AnswerText answer bytes.now) }
 
-    // An answer with these bytes is the one that is read, unless memory is wanting.
+    // An answer with these bytes is the one that is read, unless memory runs out.
     ensures only { (answer : Answer) → AnswerText answer bytes.now
         → MatchResult result (λ found. found ≡ answer) (λ fault. fault ≡ AnswerFault.Memory) }
 
@@ -55,6 +55,3 @@ fn line_behind(bytes: &[u8]) -> u32
 {
     1 + bytes.iter().filter(|byte| **byte == b'\n').count() as u32
 }
-
-#[cfg(test)]
-mod tests;

@@ -217,6 +217,3 @@ fn leaf_line(leaf: &Leaf) -> &'static [u8]
         Leaf::Pending => b"open\n",
     }
 }
-
-#[cfg(test)]
-mod tests;

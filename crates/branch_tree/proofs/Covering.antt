@@ -1,6 +1,7 @@
 -- A whole tree covers its box: no point of it is better than a best value against which every leaf closes.
 use Rattle.std.proofs.Common.{◌≡◌, ℕ, zero, suc, ◌<◌, ℤ, pos, ◌+ℤ◌, ◌≤ℤ◌, ◌<ℤ◌, List, [], ◌∷◌, length, refl, sym, subst, arith, ◌⊎◌, inl, inr, Bool, true, false}
-use Rattle.std.specs.Prelude.{Option, Some, int_lt, ◌&&◌}
+use Rattle.std.proofs.lemmas.Bool.{and_parts}
+use Rattle.std.specs.Prelude.{Option, Some, int_lt}
 use Rattle.std.proofs.lemmas.Int.{ints}
 use Rattle.ip_rows.specs.declared.Bounds.{Bounds}
 use Rattle.branch_tree.specs.declared.node.Leaf.TheVariants as leaf
@@ -28,14 +29,6 @@ itself n = omega (arith, ints)
 
 below_same : (lo hi : ℤ) → lo ≡ hi → lo ≤ℤ hi
 below_same lo hi same = omega (arith, ints)
-
-pub both_first : (a b : Bool) → (a && b) ≡ true → a ≡ true
-both_first true b both = refl
-both_first false b both = cc
-
-pub both_second : (a b : Bool) → (a && b) ≡ true → b ≡ true
-both_second true b both = both
-both_second false b both = cc
 
 at_or_above : (n at : ℤ) → (n ≤ℤ at) ⊎ ((at +ℤ pos 1) ≤ℤ n)
 at_or_above n at = by_test (int_lt at n) refl
@@ -90,7 +83,7 @@ module _ (value : List ℤ → Option ℤ) where
   covers best (closed leaf.Pending) sides closes done ns inside = absurd cc
   covers best (closed leaf.Fixed) sides closes done ns inside = subst (λ (point : List ℤ). NoBetter best (value point)) (sym (one_inside sides ns closes.0 inside)) closes.1
   covers best (split column at reason low high) sides closes done ns inside =
-      by_half (covers best low (low_box sides column at) closes.1 (both_first _ _ done) ns) (covers best high (high_box sides column at) closes.2 (both_second _ _ done) ns) (in_half sides column at ns closes.0.there inside)
+      by_half (covers best low (low_box sides column at) closes.1 (and_parts (is_done low) (is_done high) done).0 ns) (covers best high (high_box sides column at) closes.2 (and_parts (is_done low) (is_done high) done).1 ns) (in_half sides column at ns closes.0.there inside)
     where
       by_half : (InBox (low_box sides column at) ns → NoBetter best (value ns)) → (InBox (high_box sides column at) ns → NoBetter best (value ns)) → InBox (low_box sides column at) ns ⊎ InBox (high_box sides column at) ns → NoBetter best (value ns)
       by_half low high (inl inside) = low inside

@@ -1,4 +1,5 @@
 pub mod Boxes
+pub mod Faults
 pub mod Listing
 pub mod Tree
 pub mod Ways

@@ -1,5 +1,5 @@
 -- What a tree says of the points of its box, whatever value a point has.
-use Rattle.std.specs.Prelude.{◌≡◌, ℕ, ℤ, pos, ◌+ℤ◌, ◌-ℤ◌, ◌≤ℤ◌, ◌<ℤ◌, unsigned_abs, ◌+◌, ◌*◌, List, [], ◌∷◌, position, int_lt, map, Option, Some, None, Bool, true, false, ◌&&◌, ◌⊎◌}
+use Rattle.std.specs.Prelude.{◌≡◌, ℕ, ℤ, pos, ◌+ℤ◌, ◌-ℤ◌, ◌≤ℤ◌, ◌<ℤ◌, unsigned_abs, ◌+◌, ◌*◌, List, [], ◌∷◌, position, int_lt, if◌then◌else◌, map, Option, Some, None, Bool, true, false, ◌&&◌, ◌⊎◌}
 use Rattle.ip_rows.specs.declared.Bounds.{Bounds}
 use Rattle.branch_tree.specs.declared.node.Leaf.TheVariants as leaf
 use Rattle.branch_tree.specs.Tree.{Tree, closed, split}
@@ -34,6 +34,15 @@ points (side ∷ sides) = (unsigned_abs (side.hi -ℤ side.lo) + 1) * points sid
 -- a column has two values
 abbrev pub has_two : Bounds → Bool
 has_two side = int_lt side.lo side.hi
+
+-- the numbers of the columns with two values, rising; this is the number of the first side
+unfoldable pub open_from : ℕ → List Bounds → List ℕ
+open_from column [] = []
+open_from column (side ∷ sides) = if has_two side then column ∷ open_from (column + 1) sides else open_from (column + 1) sides
+
+-- they are counted from 0
+abbrev pub open_columns : List Bounds → List ℕ
+open_columns sides = open_from 0 sides
 
 -- the first column with two values
 abbrev pub IsFirstOpen : List Bounds → ℕ → Type 0

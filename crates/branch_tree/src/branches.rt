@@ -34,8 +34,8 @@ impl Model for Branches {
 impl Branches {
     /// Keeps these nodes, if they are one whole tree in preorder.
     ///
-    /// It takes no memory and goes over the nodes once. `None` comes exactly where the list is not
-    /// one whole tree (docs/ANSWERS.md). A list has fewer than 2^32 nodes.
+    /// `None` comes exactly where the list is not one whole tree (docs/ANSWERS.md). A list has fewer
+    /// than 2^32 nodes.
     pub fn from_nodes(nodes: List<Node>) -> Option<Branches>
         requires { length nodes < 2 ^ 32 }
         ensures tree { IsSome result ↔ IsTree nodes }
@@ -82,7 +82,7 @@ impl Branches {
     /// The box of a node: the root's sides, narrowed by every split above it.
     ///
     /// Nodes are counted from 0 in preorder. The node is there, and each split above it parts its own box; `root` has
-    /// one entry for each column (docs/ANSWERS.md). It goes once over the nodes before this one.
+    /// one entry for each column (docs/ANSWERS.md).
     pub fn sides(
         &self,
         alloc: Global,
@@ -130,51 +130,4 @@ fn are_one_tree(nodes: &[Node]) -> bool
         }
     }
     wanted == 0
-}
-
-#[cfg(test)]
-mod tests {
-    use super::*;
-    use crate::node::Reason;
-    use std::test::Fail;
-
-    #[test]
-    fn counts_nodes_and_gives_boxes(rt: HostRuntime) -> Result<(), Fail> {
-        let alloc = rt.alloc();
-        let split = Node::Split {
-            column: 0,
-            at: 1,
-            reason: Reason::Plain,
-        };
-        let nodes = Vec::from_array(
-            alloc,
-            [
-                split,
-                Node::Closed(Leaf::Fixed),
-                Node::Closed(Leaf::Pending),
-            ],
-        )?;
-        let tree = Branches::from_nodes(List::from_vec(nodes)).ok_or("a tree")?;
-        assert_eq!(rt; tree.nodes().len(), 3);
-        assert_eq!(rt; tree.worked(), 2);
-        assert_eq!(rt; tree.pending(), 1);
-        assert_eq!(rt; tree.copy(alloc)?.worked(), 2);
-        let root = List::from_slice(alloc, &[Bounds { lo: -1, hi: 4 }, Bounds { lo: 0, hi: 7 }])?;
-        let sides = tree.sides(alloc, &root, 2)?;
-        assert_eq!(rt;
-            sides.as_slice(),
-            [Bounds { lo: 2, hi: 4 }, Bounds { lo: 0, hi: 7 }].as_slice()
-        );
-        Ok(())
-    }
-
-    #[test]
-    fn keeps_no_second_tree(rt: HostRuntime) -> Result<(), Fail> {
-        let nodes = Vec::from_array(
-            rt.alloc(),
-            [Node::Closed(Leaf::Fixed), Node::Closed(Leaf::Fixed)],
-        )?;
-        assert!(rt; Branches::from_nodes(List::from_vec(nodes)).is_none());
-        Ok(())
-    }
 }

@@ -6,7 +6,9 @@
 
 mod branches;
 mod node;
+mod side;
 mod way;
 
 pub use branches::Branches;
 pub use node::{Leaf, Node, Reason};
+pub use side::{high_side, low_side, lowest_point};

@@ -1,10 +1,12 @@
 //! The way from a node of a tree up to its root, and the box that it leads to.
 
 ghost use Rattle.std.specs.Prelude.{◌≡◌, ◌+◌, ◌^◌, ◌<◌, ◌≤◌, IfOk, OnOk, length, slice_get, slice_set, [], if◌then◌else◌, pos, ◌≤ℤ◌, ◌<ℤ◌, IsTrue};
-ghost use Rattle.branch_tree.specs.Boxes.{IsParted, low_side, high_side};
+ghost use Rattle.branch_tree.specs.Boxes.{IsParted};
+ghost use Rattle.branch_tree.specs.Boxes as boxes;
 ghost use Rattle.branch_tree.specs.Ways as spec;
 
 use crate::node::Node;
+use crate::side::{high_side, low_side};
 use base_kit::{List, Memory};
 use ip_rows::Bounds;
 use std::alloc::Global;
@@ -95,17 +97,11 @@ fn turn_to(sides: &mut List<Bounds>, turn: Turn)
 /// The numbers of a side up to `at`, or those above it.
 fn side_of(side: Bounds, at: i64, is_low: bool) -> Bounds
     requires { at <ℤ side.hi }
-    ensures { result ≡ (if is_low then low_side side at else high_side side at) }
+    ensures { result ≡ (if is_low then boxes.low_side side at else boxes.high_side side at) }
 {
     if is_low {
-        Bounds {
-            lo: side.lo,
-            hi: at,
-        }
+        low_side(side, at)
     } else {
-        Bounds {
-            lo: at + 1,
-            hi: side.hi,
-        }
+        high_side(side, at)
     }
 }

@@ -2,14 +2,16 @@
 use Rattle.std.proofs.Common.{◌≡◌, ℕ, ℤ, ◌≤ℤ◌, Bool, true, false, not, List, [], ◌∷◌, refl, sym, ◌∙◌, ap, subst, arith}
 use Rattle.std.specs.Prelude.{Option, Some, None, Ok, Err, IfOk, MatchResult, IsSome, is_some, is_none, position, ◌==◌, ◌&&◌, All}
 use Rattle.std.specs.List.{AllZip}
-use Rattle.std.proofs.lemmas.Bool.{eqb-true, eq-eqb}
+use Rattle.std.proofs.lemmas.Bool.{eqb-true, eq-eqb, and_parts, and_from, not-true}
 use Rattle.std.proofs.lemmas.Bool.Decides.{Decides-int_eq}
 use Rattle.std.proofs.lemmas.Int.{ints}
 use Rattle.std.proofs.lemmas.Slice.Eq.{bytes_eq-Decides}
 use Rattle.tiql_query.specs.declared.query.Query.{Query}
 use Rattle.tiql_query.specs.declared.world_column.WorldColumn.{WorldColumn}
 use Rattle.tiql_query.specs.WellFormed.{IsWellFormed}
-use Rattle.tables_csv.specs.QueryTables.{AreTables}
+use Rattle.tiql_query.specs.Rows.{AreTables}
+use Rattle.branch_tree.specs.Faults.{IsSound}
+use Rattle.branch_tree.proofs.Faults.{sound_ok}
 use Rattle.branch_tree.specs.Tree.{Tree, preorder}
 use Rattle.branch_tree.specs.Listing.{AreSides, AreFixed, Closes, InBox, NoBetter, has_two, lows, is_done}
 use Rattle.branch_tree.proofs.Covering.{covers, one_inside, lows_inside}
@@ -27,26 +29,19 @@ use Rattle.world_def.proofs.Agreed.{and_then-Ok}
 use Rattle.world_def.proofs.Choices.{columns_told}
 use Rattle.world_def.proofs.Restored.{world_restored}
 use Rattle.world_points.specs.Points as points
-use Rattle.world_points.specs.Points.{judged, judged_at, numbers, root, value_at, worth}
+use Rattle.world_points.specs.Points.{judged, judged_at, numbers, root, cost_at, cost}
 use Rattle.cert_check.specs.declared.fault.Reject.TheVariants as reject
 use Rattle.cert_check.specs.declared.fault.CheckFault.TheVariants as fault
-use Rattle.cert_check.specs.Parts.{open_columns}
-use Rattle.cert_check.specs.Reasons.{Outcome, ◌>>◌, OrElse, unless, is_same, have_two, are_open, is_the_part, are_all_parts, is_finished, has_no_program, parts_of, worth_of, in_part, in_parts, of_parts, of_world, of_row, of_verdict, Give, IsGiven, IsOfVerdict, IsOutcome, Tells}
-use Rattle.cert_check.specs.Valid.{IsClosed, AreClosedFor, IsValidOptimal, IsValidRow, IsValidPart, IsValidVerdict, IsValid, IsRight, IsSound, IsSoundPart, NoFaults}
+use Rattle.branch_tree.specs.Listing.{open_columns}
+use Rattle.cert_check.specs.Reasons.{Outcome, ◌>>◌, OrElse, unless, is_same, have_two, are_open, is_the_part, are_all_parts, is_finished, has_no_program, parts_of, cost_of, in_part, in_parts, of_parts, of_world, of_row, of_verdict, Give, IsGiven, IsOfVerdict, IsOutcome, TellsFirst}
+use Rattle.cert_check.specs.Valid.{IsClosed, AreClosedFor, IsValidOptimal, IsValidRow, IsValidPart, IsValidVerdict, IsValid, IsRight, IsSoundPart, NoFaults}
 use Rattle.cert_check.proofs.Nodes.{unless_ok}
-use Rattle.cert_check.proofs.Sound.{first_ok, next_ok, both_ok, holds_ok, choice_position, fixed_of_test, test_of_fixed, tree_right, right_tree, not_true}
+use Rattle.cert_check.proofs.Sound.{first_ok, next_ok, both_ok, holds_ok, choice_position, fixed_of_test, test_of_fixed, tree_right, right_tree}
 use Rattle.answer_text.proofs.Worlds.{world_one}
 use Rattle.world_points.proofs.Laws.{own_inside, best_of, none_there, best_there}
 use Rattle.world_points.proofs.Ordered.{sides_there}
 use Rattle.world_points.proofs.Told.{agree}
-use Rattle.cert_check.proofs.Worths.{asked_ok, ok_asked, sound_ok, worth_is, is_worth}
-
-both : (a b : Bool) → (a && b) ≡ true → (a ≡ true) × (b ≡ true)
-both true b is = (refl, is)
-both false b is = cc
-
-both_true : (a b : Bool) → a ≡ true → b ≡ true → (a && b) ≡ true
-both_true a b one other = cc
+use Rattle.cert_check.proofs.Costs.{asked_ok, ok_asked, cost_is, is_cost}
 
 pub same_values : (one other : Option ℤ) → is_same one other ≡ true → one ≡ other
 same_values None None is = refl
@@ -68,11 +63,11 @@ module _ (query : Query) (tables : Tables) (columns : List WorldColumn) (made : 
   all_sides = sides_there query tables columns made
 
   part_is : (part : PartAnswer) → is_the_part (root columns) part ≡ true → (part.number ≡ 1) × (part.columns ≡ open_columns (root columns))
-  part_is part is = let two = both (part.number == 1) (are_open part.columns (root columns)) is in
+  part_is part is = let two = and_parts (part.number == 1) (are_open part.columns (root columns)) is in
       (eqb-true part.number 1 two.0, (bytes_eq-Decides part.columns (open_columns (root columns))).0 two.1)
 
   is_part : (part : PartAnswer) → part.number ≡ 1 → part.columns ≡ open_columns (root columns) → is_the_part (root columns) part ≡ true
-  is_part part number shown = both_true (part.number == 1) (are_open part.columns (root columns)) (eq-eqb part.number 1 number) ((bytes_eq-Decides part.columns (open_columns (root columns))).1 shown)
+  is_part part number shown = and_from (part.number == 1) (are_open part.columns (root columns)) (eq-eqb part.number 1 number) ((bytes_eq-Decides part.columns (open_columns (root columns))).1 shown)
 
   -- a part in which nothing is wrong is closed
   part_closed : (best : Option ℤ) (part : PartAnswer) (tree : Tree) → is_the_part (root columns) part ≡ true → part.tree ≡ preorder tree → in_part query tables columns best part tree ≡ Ok tt → IsClosed query tables columns best part
@@ -87,7 +82,7 @@ module _ (query : Query) (tables : Tables) (columns : List WorldColumn) (made : 
   closed_part best part tree has whole sound =
       let one : whole.tree ≡ tree = one_tree whole.tree tree (sym whole.nodes ∙ has) in
       both_ok (unless (is_same part.best best) reject.BestDiffers part.number 0) _ (holds_ok (is_same part.best best) reject.BestDiffers part.number 0 (values_same part.best best whole.found))
-      (right_tree query tables columns best part.number tree (root columns) 1 (subst (λ (t : Tree). is_done t ≡ true) one whole.done) (subst (λ (t : Tree). Closes (value_at query tables columns) best t (root columns)) one whole.closes) (sound tree has))
+      (right_tree query tables columns best part.number tree (root columns) 1 (subst (λ (t : Tree). is_done t ≡ true) one whole.done) (subst (λ (t : Tree). Closes (cost_at query tables columns) best t (root columns)) one whole.closes) (sound tree has))
 
   choice : have_two (root columns) ≡ is_some (position has_two (root columns))
   choice = choice_position (root columns) all_sides
@@ -102,10 +97,10 @@ module _ (query : Query) (tables : Tables) (columns : List WorldColumn) (made : 
   -- the parts, where nothing is wrong in them
   all_closed : (best : Option ℤ) (parts : List PartAnswer) (trees : List Tree) → AllZip (λ part tree. part.tree ≡ preorder tree) parts trees → are_all_parts (root columns) parts ≡ true → in_parts query tables columns best parts trees ≡ Ok tt →
       AreClosedFor query tables columns best (position has_two (root columns)) parts
-  all_closed best [] trees have all right = subst (λ (o : Option ℕ). AreClosedFor query tables columns best o []) (sym (no_choice (not_true (have_two (root columns)) all))) refl
+  all_closed best [] trees have all right = subst (λ (o : Option ℕ). AreClosedFor query tables columns best o []) (sym (no_choice (not-true (have_two (root columns)) all))) refl
   all_closed best (part ∷ []) [] have all right = absurd have
   all_closed best (part ∷ []) (tree ∷ []) have all right =
-      let two = both (have_two (root columns)) (is_the_part (root columns) part) all in
+      let two = and_parts (have_two (root columns)) (is_the_part (root columns) part) all in
       let whole = part_closed best part tree two.1 have.0 (first_ok (in_part query tables columns best part tree) (Ok tt) right) in
       by_first (position has_two (root columns)) (sym choice ∙ two.0) whole
     where
@@ -124,7 +119,7 @@ module _ (query : Query) (tables : Tables) (columns : List WorldColumn) (made : 
   none_wrong best (part ∷ []) (tree ∷ trees) (Some column) is have are sound =
       let same : are.0 ≡ part = inside (sym are.1) in
       let whole = subst (IsClosed query tables columns best) same are.2 in (
-        both_true (have_two (root columns)) (is_the_part (root columns) part) (choice ∙ ap is_some is) (is_part part whole.number whole.shown),
+        and_from (have_two (root columns)) (is_the_part (root columns) part) (choice ∙ ap is_some is) (is_part part whole.number whole.shown),
         both_ok (in_part query tables columns best part tree) (Ok tt) (closed_part best part tree have.0 whole (sound 0 part (omega arith))) refl,
       )
     where
@@ -140,55 +135,55 @@ module _ (query : Query) (tables : Tables) (columns : List WorldColumn) (made : 
   at_most_itself m n same = omega (arith, ints)
 
   -- where no column has two values, a point of the box is the one of a value that is there
-  only_point : AreFixed (root columns) → (point : List ℤ) (value : ℤ) → InBox (root columns) point → value_at query tables columns point ≡ Some value → (other : List ℤ) → InBox (root columns) other → NoBetter (Some value) (value_at query tables columns other)
+  only_point : AreFixed (root columns) → (point : List ℤ) (value : ℤ) → InBox (root columns) point → cost_at query tables columns point ≡ Some value → (other : List ℤ) → InBox (root columns) other → NoBetter (Some value) (cost_at query tables columns other)
   only_point fixed point value there is other inside =
       let same : point ≡ other = one_inside (root columns) point fixed there ∙ sym (one_inside (root columns) other fixed inside) in
-      subst (NoBetter (Some value)) (sym is ∙ ap (value_at query tables columns) same) (at_most_itself value value refl)
+      subst (NoBetter (Some value)) (sym is ∙ ap (cost_at query tables columns) same) (at_most_itself value value refl)
 
   module _ (fit : IsWellFormed query) (are : AreTables query tables) where
     -- a possible world that meets is best where no column has two values
     fixed_least : AreFixed (root columns) → (world : World) → IsPossible query tables world → Meets query tables world → (other : List ℤ) → InBox (root columns) other
-        → NoBetter (Some (worth query.aim (score query.aim tables world))) (value_at query tables columns other)
-    fixed_least fixed world possible meets other inside = by_value (value_at query tables columns other) refl
+        → NoBetter (Some (cost query.aim (score query.aim tables world))) (cost_at query tables columns other)
+    fixed_least fixed world possible meets other inside = by_value (cost_at query tables columns other) refl
       where
         same : other ≡ numbers query tables columns world
         same = one_inside (root columns) other fixed inside ∙ sym (one_inside (root columns) (numbers query tables columns world) fixed (own_inside query tables columns made fit are world possible))
 
-        by_value : (o : Option ℤ) → value_at query tables columns other ≡ o → NoBetter (Some (worth query.aim (score query.aim tables world))) o
+        by_value : (o : Option ℤ) → cost_at query tables columns other ≡ o → NoBetter (Some (cost query.aim (score query.aim tables world))) o
         by_value None is = tt
         by_value (Some value) is =
             let best = best_there query tables columns made fit are other value is (only_point fixed other value inside is) in
             let its : points.world_at query tables columns other ≡ world = ap (points.world_at query tables columns) same ∙ world_is world possible in
-            at_most_itself (worth query.aim (score query.aim tables world)) value (sym (best.1 ∙ ap (λ (w : World). worth query.aim (score query.aim tables w)) its))
+            at_most_itself (cost query.aim (score query.aim tables world)) value (sym (best.1 ∙ ap (λ (w : World). cost query.aim (score query.aim tables w)) its))
 
     -- an optimal answer that is valid has the best world
     pub valid_best : (objective : ℤ) (worlds : List WorldText) (parts : List PartAnswer) (valid : IsValidOptimal query tables columns objective worlds parts) → IsBest query tables valid.world
     valid_best objective worlds parts valid = best_of query tables columns made fit are valid.world valid.possible valid.meets (by_first (position has_two (root columns)) refl valid.closed)
       where
-        by_first : (o : Option ℕ) → position has_two (root columns) ≡ o → AreClosedFor query tables columns (Some (worth query.aim objective)) o parts → (other : List ℤ) → InBox (root columns) other
-            → NoBetter (Some (worth query.aim (score query.aim tables valid.world))) (value_at query tables columns other)
+        by_first : (o : Option ℕ) → position has_two (root columns) ≡ o → AreClosedFor query tables columns (Some (cost query.aim objective)) o parts → (other : List ℤ) → InBox (root columns) other
+            → NoBetter (Some (cost query.aim (score query.aim tables valid.world))) (cost_at query tables columns other)
         by_first None is closed other inside = fixed_least (fixed_of_test (root columns) all_sides (choice ∙ ap is_some is)) valid.world valid.possible valid.meets other inside
         by_first (Some column) is closed other inside =
-            subst (λ (n : ℤ). NoBetter (Some (worth query.aim n)) (value_at query tables columns other)) valid.value
-            (covers (value_at query tables columns) (Some (worth query.aim objective)) closed.2.tree (root columns) closed.2.closes closed.2.done other inside)
+            subst (λ (n : ℤ). NoBetter (Some (cost query.aim n)) (cost_at query tables columns other)) valid.value
+            (covers (cost_at query tables columns) (Some (cost query.aim objective)) closed.2.tree (root columns) closed.2.closes closed.2.done other inside)
 
     -- where an impossible answer is valid, no world meets
     pub valid_part_none : (part : PartAnswer) → IsValidPart query tables columns part → NoneMeets query tables
-    valid_part_none part valid = none_there query tables columns made fit are (λ other inside. covers (value_at query tables columns) None valid.closed.tree (root columns) valid.closed.closes valid.closed.done other inside)
+    valid_part_none part valid = none_there query tables columns made fit are (λ other inside. covers (cost_at query tables columns) None valid.closed.tree (root columns) valid.closed.closes valid.closed.done other inside)
 
     -- the row of an impossible answer
     row_valid : (row : ℕ) → of_row query tables columns row ≡ Ok tt → IsValidRow query tables columns row
     row_valid row right =
         let before = unless (row == 0 && not (have_two (root columns))) reject.RowHolds 0 0 in
-        let inner = both (row == 0) (not (have_two (root columns))) (unless_ok (row == 0 && not (have_two (root columns))) reject.RowHolds 0 0 (first_ok before _ right)) in
-        let fixed = fixed_of_test (root columns) all_sides (not_true (have_two (root columns)) inner.1) in
+        let inner = and_parts (row == 0) (not (have_two (root columns))) (unless_ok (row == 0 && not (have_two (root columns))) reject.RowHolds 0 0 (first_ok before _ right)) in
+        let fixed = fixed_of_test (root columns) all_sides (not-true (have_two (root columns)) inner.1) in
         let told = asked_ok (judged_at query tables columns (lows (root columns))) (λ value. unless (is_none value) reject.RowHolds 0 0) tt (next_ok before _ right) in
         let none = unless_ok (is_none told.0) reject.RowHolds 0 0 told.2 in
         record {
           first = eqb-true row 0 inner.0;
           fixed = fixed;
           none = none_there query tables columns made fit are (λ other inside.
-              subst (NoBetter None) (sym (agree query tables columns (lows (root columns)) told.0 told.1) ∙ ap (value_at query tables columns) (sym (one_inside (root columns) other fixed inside))) (by_value told.0 none));
+              subst (NoBetter None) (sym (agree query tables columns (lows (root columns)) told.0 told.1) ∙ ap (cost_at query tables columns) (sym (one_inside (root columns) other fixed inside))) (by_value told.0 none));
         }
       where
         by_value : (o : Option ℤ) → is_none o ≡ true → NoBetter None o
@@ -199,11 +194,11 @@ module _ (query : Query) (tables : Tables) (columns : List WorldColumn) (made : 
     valid_row row valid sound =
         let told = sound_ok (judged_at query tables columns (lows (root columns))) sound in
         both_ok (unless (row == 0 && not (have_two (root columns))) reject.RowHolds 0 0) _
-        (holds_ok (row == 0 && not (have_two (root columns))) reject.RowHolds 0 0 (both_true (row == 0) (not (have_two (root columns))) (eq-eqb row 0 valid.first) (ap not (test_of_fixed (root columns) valid.fixed))))
+        (holds_ok (row == 0 && not (have_two (root columns))) reject.RowHolds 0 0 (and_from (row == 0) (not (have_two (root columns))) (eq-eqb row 0 valid.first) (ap not (test_of_fixed (root columns) valid.fixed))))
         (ok_asked (judged_at query tables columns (lows (root columns))) (λ value. unless (is_none value) reject.RowHolds 0 0) told.0 tt told.1
         (holds_ok (is_none told.0) reject.RowHolds 0 0 (by_value told.0 (agree query tables columns (lows (root columns)) told.0 told.1))))
       where
-        by_value : (o : Option ℤ) → value_at query tables columns (lows (root columns)) ≡ o → is_none o ≡ true
+        by_value : (o : Option ℤ) → cost_at query tables columns (lows (root columns)) ≡ o → is_none o ≡ true
         by_value None e = refl
         by_value (Some value) e =
             let best = best_there query tables columns made fit are (lows (root columns)) value e (only_point valid.fixed (lows (root columns)) value (lows_inside (root columns) valid.fixed) e) in
@@ -214,8 +209,8 @@ module _ (query : Query) (tables : Tables) (columns : List WorldColumn) (made : 
         of_world query tables columns objective parts trees given ≡ Ok tt → IsValidOptimal query tables columns objective worlds parts
     optimal_valid objective worlds parts None trees gives have right = cc
     optimal_valid objective worlds parts (Some world) trees gives have right =
-        let told = and_then-Ok (worth_of query tables objective world) (λ best. of_parts query tables columns (Some best) parts trees) tt right in
-        let its = worth_is query tables objective world told.0 told.1 in
+        let told = and_then-Ok (cost_of query tables objective world) (λ best. of_parts query tables columns (Some best) parts trees) tt right in
+        let its = cost_is query tables objective world told.0 told.1 in
         let parted = unless (are_all_parts (root columns) parts) reject.WrongParts 0 0 in
         record {
           world = world;
@@ -232,9 +227,9 @@ module _ (query : Query) (tables : Tables) (columns : List WorldColumn) (made : 
     valid_optimal objective worlds parts None trees gives have valid sound = absurd (gives valid.world valid.given valid.possible)
     valid_optimal objective worlds parts (Some world) trees gives have valid sound =
         let same : valid.world ≡ world = world_one query tables are worlds valid.world world valid.given gives.0 in
-        let its : worth_of query tables objective world ≡ Ok (worth query.aim objective) =
-        is_worth query tables objective world (subst (Meets query tables) same valid.meets) (valid.value ∙ ap (score query.aim tables) same) (sound.0 world gives.0) in
-        let right = none_wrong (Some (worth query.aim objective)) parts trees (position has_two (root columns)) refl have valid.closed sound.1 in
+        let its : cost_of query tables objective world ≡ Ok (cost query.aim objective) =
+        is_cost query tables objective world (subst (Meets query tables) same valid.meets) (valid.value ∙ ap (score query.aim tables) same) (sound.0 world gives.0) in
+        let right = none_wrong (Some (cost query.aim objective)) parts trees (position has_two (root columns)) refl have valid.closed sound.1 in
         rw its (both_ok (unless (are_all_parts (root columns) parts) reject.WrongParts 0 0) _ (holds_ok (are_all_parts (root columns) parts) reject.WrongParts 0 0 right.0) right.1)
 
     verdict_valid : (told : Verdict) → IsOfVerdict query tables columns told (Ok tt) → is_finished told ≡ true → IsValidVerdict query tables columns told
@@ -247,7 +242,7 @@ module _ (query : Query) (tables : Tables) (columns : List WorldColumn) (made : 
         by_trees [] have right = absurd have
         by_trees (tree ∷ trees) have right =
             let parted = unless (have_two (root columns) && is_the_part (root columns) part) reject.WrongParts 0 0 in
-            let two = both (have_two (root columns)) (is_the_part (root columns) part) (unless_ok (have_two (root columns) && is_the_part (root columns) part) reject.WrongParts 0 0 (first_ok parted _ right)) in
+            let two = and_parts (have_two (root columns)) (is_the_part (root columns) part) (unless_ok (have_two (root columns) && is_the_part (root columns) part) reject.WrongParts 0 0 (first_ok parted _ right)) in
             record { several = several_of (position has_two (root columns)) (sym choice ∙ two.0); closed = part_closed None part tree two.1 have.0 (first_ok (in_part query tables columns None part tree) _ (next_ok parted _ right)) }
           where
             several_of : (o : Option ℕ) → is_some o ≡ true → IsSome o
@@ -268,7 +263,7 @@ module _ (query : Query) (tables : Tables) (columns : List WorldColumn) (made : 
         by_trees [] have = absurd have
         by_trees (tree ∷ trees) have =
             both_ok (unless (have_two (root columns) && is_the_part (root columns) part) reject.WrongParts 0 0) _
-            (holds_ok (have_two (root columns) && is_the_part (root columns) part) reject.WrongParts 0 0 (both_true (have_two (root columns)) (is_the_part (root columns) part) (choice ∙ some_of (position has_two (root columns)) valid.several) (is_part part valid.closed.number valid.closed.shown)))
+            (holds_ok (have_two (root columns) && is_the_part (root columns) part) reject.WrongParts 0 0 (and_from (have_two (root columns)) (is_the_part (root columns) part) (choice ∙ some_of (position has_two (root columns)) valid.several) (is_part part valid.closed.number valid.closed.shown)))
             (both_ok (in_part query tables columns None part tree) _ (closed_part None part tree have.0 valid.closed sound) refl)
     valid_verdict (verdict.Unfinished nodes parts) outcome valid sound of = absurd valid
 
@@ -287,16 +282,16 @@ module _ (query : Query) (tables : Tables) (columns : List WorldColumn) (made : 
               let rest = before_is (IsOfVerdict query tables columns answer.verdict) (Ok tt) of (Ok tt) is in
               let finished = unless_ok (is_finished answer.verdict) reject.Unfinished 0 0 (first_ok (unless (is_finished answer.verdict) reject.Unfinished 0 0) _ is) in
               let program = unless_ok (has_no_program answer) reject.WrongProgram 0 0 (next_ok (unless (is_finished answer.verdict) reject.Unfinished 0 0) _ is) in
-              let outer = both (answer.columns == 0 && answer.rows == 0) (answer.formulas == 0) program in
-              let inner = both (answer.columns == 0) (answer.rows == 0) outer.0 in
+              let outer = and_parts (answer.columns == 0 && answer.rows == 0) (answer.formulas == 0) program in
+              let inner = and_parts (answer.columns == 0) (answer.rows == 0) outer.0 in
               record { no_columns = eqb-true answer.columns 0 inner.0; no_rows = eqb-true answer.rows 0 inner.1; no_formulas = eqb-true answer.formulas 0 outer.1; verdict = verdict_valid answer.verdict rest finished }
 
       -- and for a valid answer none comes, where no value is too large
       pub valid_accepted : (outcome : Outcome) → IsValid query tables columns answer → NoFaults query tables columns answer.verdict → IsOutcome query tables columns answer outcome → outcome ≡ Ok tt
       valid_accepted outcome valid sound of =
           let finished : is_finished answer.verdict ≡ true = is_done_verdict answer.verdict valid.verdict in
-          let program : has_no_program answer ≡ true = both_true (answer.columns == 0 && answer.rows == 0) (answer.formulas == 0)
-          (both_true (answer.columns == 0) (answer.rows == 0) (eq-eqb answer.columns 0 valid.no_columns) (eq-eqb answer.rows 0 valid.no_rows)) (eq-eqb answer.formulas 0 valid.no_formulas) in
+          let program : has_no_program answer ≡ true = and_from (answer.columns == 0 && answer.rows == 0) (answer.formulas == 0)
+          (and_from (answer.columns == 0) (answer.rows == 0) (eq-eqb answer.columns 0 valid.no_columns) (eq-eqb answer.rows 0 valid.no_rows)) (eq-eqb answer.formulas 0 valid.no_formulas) in
           let none : (unless (is_finished answer.verdict) reject.Unfinished 0 0 >> unless (has_no_program answer) reject.WrongProgram 0 0) ≡ Ok tt =
           both_ok (unless (is_finished answer.verdict) reject.Unfinished 0 0) _ (holds_ok (is_finished answer.verdict) reject.Unfinished 0 0 finished) (holds_ok (has_no_program answer) reject.WrongProgram 0 0 program) in
           valid_verdict answer.verdict outcome valid.verdict sound (before_is (IsOfVerdict query tables columns answer.verdict) outcome of (Ok tt) none)
@@ -308,11 +303,11 @@ module _ (query : Query) (tables : Tables) (columns : List WorldColumn) (made : 
           is_done_verdict (verdict.Unfinished nodes parts) holds = absurd holds
 
       -- what is told of an answer: it is valid, or a valid one is not refused
-      pub told_valid : (told : Outcome) → Tells query tables columns answer told → IfOk told (λ x. IsValid query tables columns answer)
+      pub told_valid : (told : Outcome) → TellsFirst query tables columns answer told → IfOk told (λ x. IsValid query tables columns answer)
       told_valid (Ok x) tells = accepted_valid tells
       told_valid (Err e) tells = tt
 
-      pub told_accepted : (told : Outcome) → Tells query tables columns answer told → IsValid query tables columns answer → NoFaults query tables columns answer.verdict → MatchResult told (λ x. Unit {0}) (λ e. e ≡ fault.Memory)
+      pub told_accepted : (told : Outcome) → TellsFirst query tables columns answer told → IsValid query tables columns answer → NoFaults query tables columns answer.verdict → MatchResult told (λ x. Unit {0}) (λ e. e ≡ fault.Memory)
       told_accepted (Ok x) tells valid sound = tt
       told_accepted (Err fault.Memory) tells valid sound = refl
       told_accepted (Err (fault.Wide source number)) tells valid sound = let wrong = valid_accepted (Err (fault.Wide source number)) valid sound tells in cc
@@ -328,7 +323,7 @@ module _ (query : Query) (tables : Tables) (columns : List WorldColumn) (made : 
       pub valid_right : IsValid query tables columns answer → IsRight query tables answer.verdict
       valid_right valid = right_verdict answer.verdict valid.verdict
 
-      pub told_right : (told : Outcome) → Tells query tables columns answer told → IfOk told (λ x. IsRight query tables answer.verdict)
+      pub told_right : (told : Outcome) → TellsFirst query tables columns answer told → IfOk told (λ x. IsRight query tables answer.verdict)
       told_right (Ok x) tells = valid_right (accepted_valid tells)
       told_right (Err e) tells = tt
 

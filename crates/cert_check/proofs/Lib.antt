@@ -1,4 +1,5 @@
 pub mod Accepted
+pub mod Costs
 pub mod Given
 pub mod Lengths
 pub mod Nodes
@@ -6,4 +7,3 @@ pub mod Parts
 pub mod Sound
 pub mod Verdicts
 pub mod Walks
-pub mod Worths

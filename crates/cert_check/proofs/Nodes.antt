@@ -1,5 +1,6 @@
 -- The nodes of a tree in preorder, over the boxes that are still to be gone over.
 use Rattle.std.proofs.Common.{◌≡◌, ℕ, suc, ◌+◌, ◌<◌, ℤ, ◌≤ℤ◌, ◌<ℤ◌, Bool, true, false, List, [], ◌∷◌, ◌++◌, length, get_or, drop, refl, sym, ◌∙◌, ap, ap₂, subst, arith}
+use Rattle.std.proofs.lemmas.Bool.{and_parts}
 use Rattle.std.specs.Prelude.{Option, Ok, Err, int_le, int_lt, nat_lt, ◌&&◌}
 use Rattle.std.proofs.lemmas.Int.{ints}
 use Rattle.std.proofs.lemmas.List.{drop_more, append_assoc, append-nil, length-append}
@@ -16,7 +17,7 @@ use Rattle.cert_check.specs.declared.fault.Reject.{Reject}
 use Rattle.cert_check.specs.declared.fault.CheckFault.{CheckFault}
 use Rattle.cert_check.specs.declared.fault.CheckFault.TheVariants as fault
 use Rattle.cert_check.specs.Reasons.{Outcome, ◌>>◌, unless, is_parted, in_tree}
-use Rattle.cert_check.specs.Checks.{Gives}
+use Rattle.cert_check.specs.Checks.{TellsOutcome}
 use Rattle.cert_check.specs.Walks.{PartsFirst, behind_node, at_node, in_nodes}
 
 pub then_assoc : (a b c : Outcome) → ((a >> b) >> c) ≡ (a >> (b >> c))
@@ -27,21 +28,11 @@ pub then_ok : (a : Outcome) → (a >> Ok tt) ≡ a
 then_ok (Ok x) = refl
 then_ok (Err e) = refl
 
-pub gives_same : (told outcome : Outcome) → outcome ≡ told → Gives outcome told
-gives_same (Ok x) outcome is = is
-gives_same (Err fault.Memory) outcome is = tt
-gives_same (Err (fault.Wide source number)) outcome is = is
-gives_same (Err (fault.Rejected reason part node)) outcome is = is
-
-both : (a b : Bool) → (a && b) ≡ true → (a ≡ true) × (b ≡ true)
-both true b is = (refl, is)
-both false b is = cc
-
 -- the test of a split is the definition's
 pub parted_of : (sides : List Bounds) (column : ℕ) (at : ℤ) → is_parted sides column at ≡ true → IsParted sides column at
 parted_of sides column at is =
-    let outer = both (nat_lt column (length sides) && int_le (side_at sides column).lo at) (int_lt at (side_at sides column).hi) is in
-    let inner = both (nat_lt column (length sides)) (int_le (side_at sides column).lo at) outer.0 in
+    let outer = and_parts (nat_lt column (length sides) && int_le (side_at sides column).lo at) (int_lt at (side_at sides column).hi) is in
+    let inner = and_parts (nat_lt column (length sides)) (int_le (side_at sides column).lo at) outer.0 in
     record { there = below _ _ inner.0; low = at_most _ _ inner.1; high = less _ _ outer.1 }
   where
     below : (m n : ℕ) → nat_lt m n ≡ true → m < n
@@ -79,7 +70,7 @@ module _ (query : Query) (tables : Tables) (columns : List WorldColumn) (best : 
     wrong_here : (whole : Outcome) (e : CheckFault) → at_node query tables columns best part here sides (at + 1) ≡ Err e → in_nodes query tables columns best part (drop at nodes) more (at + 1) ≡ whole → whole ≡ Err e
     wrong_here whole e wrong left = sym left ∙ nodes_here ∙ ap (λ (a : Outcome). a >> in_nodes query tables columns best part (drop (at + 1) nodes) (behind_node here more) (at + 1 + 1)) wrong
 
-    pub gives_here : (whole : Outcome) (e : CheckFault) → Gives (at_node query tables columns best part here sides (at + 1)) (Err e) → in_nodes query tables columns best part (drop at nodes) more (at + 1) ≡ whole → Gives whole (Err e)
+    pub gives_here : (whole : Outcome) (e : CheckFault) → TellsOutcome (at_node query tables columns best part here sides (at + 1)) (Err e) → in_nodes query tables columns best part (drop at nodes) more (at + 1) ≡ whole → TellsOutcome whole (Err e)
     gives_here whole fault.Memory wrong left = tt
     gives_here whole (fault.Wide source number) wrong left = wrong_here whole (fault.Wide source number) wrong left
     gives_here whole (fault.Rejected reason number node) wrong left = wrong_here whole (fault.Rejected reason number node) wrong left

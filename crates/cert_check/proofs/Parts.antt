@@ -5,8 +5,8 @@ use Rattle.std.specs.Str.{bytes_eq}
 use Rattle.std.proofs.lemmas.Bool.{cases_lt, eqb-true, eq-eqb}
 use Rattle.std.proofs.lemmas.List.{drop_more, drop_all}
 use Rattle.ip_rows.specs.declared.Bounds.{Bounds}
-use Rattle.cert_check.specs.Parts.{open_from}
-use Rattle.cert_check.specs.Reasons.{has_two, has_at}
+use Rattle.branch_tree.specs.Listing.{has_two, open_from}
+use Rattle.cert_check.specs.Reasons.{has_at}
 
 -- columns of which the first is to be this number
 at_head : (columns : List ℕ) (next number : ℕ) (rest : List ℕ) → bytes_eq (drop next columns) (number ∷ rest) ≡ (has_at columns next number && bytes_eq (drop (next + 1) columns) rest)

@@ -1,5 +1,6 @@
 -- An answer for which no reason comes is valid, and for a valid answer none comes.
 use Rattle.std.proofs.Common.{◌≡◌, ℕ, zero, suc, ◌+◌, ◌<◌, ℤ, ◌≤ℤ◌, ◌<ℤ◌, Bool, true, false, not, List, [], ◌∷◌, length, get_or, refl, sym, ◌∙◌, ap, subst, arith}
+use Rattle.std.proofs.lemmas.Bool.{and_parts, and_from, or_parts, not-true}
 use Rattle.std.specs.Prelude.{Option, Some, None, Ok, Err, is_some, position, int_le, int_lt, nat_lt, ◌&&◌, ◌||◌}
 use Rattle.std.proofs.lemmas.Int.{ints}
 use Rattle.std.proofs.lemmas.List.Quantifiers.{position-Some}
@@ -8,19 +9,19 @@ use Rattle.tiql_query.specs.declared.query.Query.{Query}
 use Rattle.tiql_query.specs.declared.world_column.WorldColumn.{WorldColumn}
 use Rattle.branch_tree.specs.declared.node.Leaf.TheVariants as leaf
 use Rattle.branch_tree.specs.Tree.{Tree, closed, split, preorder}
+use Rattle.branch_tree.specs.Faults.{NoFault, first_fault}
+use Rattle.branch_tree.proofs.Faults.{neither_first, neither_later, sound_ok}
 use Rattle.branch_tree.specs.Boxes.{IsParted, low_box, high_box}
 use Rattle.branch_tree.specs.Listing.{AreSides, AreFixed, Closes, NoBetter, has_two, lows, is_done}
 use Rattle.branch_tree.proofs.Columns.{no_side, one_point, sides_low, sides_high}
-use Rattle.branch_tree.proofs.Covering.{both_first, both_second}
 use Rattle.world_def.specs.Columns.{Tables}
-use Rattle.world_points.specs.Points.{judged_at, value_at}
+use Rattle.world_points.specs.Points.{judged_at, cost_at}
 use Rattle.cert_check.specs.declared.fault.Reject.{Reject}
 use Rattle.cert_check.specs.declared.fault.Reject.TheVariants as reject
 use Rattle.cert_check.specs.Reasons.{Outcome, ◌>>◌, unless, beats, is_parted, have_two, in_tree}
-use Rattle.cert_check.specs.Valid.{IsSoundTree}
 use Rattle.world_points.proofs.Told.{agree}
 use Rattle.cert_check.proofs.Nodes.{parted_of, unless_ok}
-use Rattle.cert_check.proofs.Worths.{asked_ok, ok_asked, sound_ok}
+use Rattle.cert_check.proofs.Costs.{asked_ok, ok_asked}
 
 -- both of two reasons stay away
 pub first_ok : (a b : Outcome) → (a >> b) ≡ Ok tt → a ≡ Ok tt
@@ -36,10 +37,6 @@ holds_ok test reason part place is = ap (λ (b : Bool). unless b reason part pla
 
 pub both_ok : (a b : Outcome) → a ≡ Ok tt → b ≡ Ok tt → (a >> b) ≡ Ok tt
 both_ok a b one other = ap (λ (o : Outcome). o >> b) one ∙ other
-
-pub not_true : (b : Bool) → not b ≡ true → b ≡ false
-not_true true is = cc
-not_true false is = refl
 
 -- a value is not better than the best exactly where the test says so
 no_better : (best value : Option ℤ) → beats best value ≡ false → NoBetter best value
@@ -59,13 +56,9 @@ one_value side le is = grind (arith, ints)
 no_two : (side : Bounds) → side.lo ≡ side.hi → has_two side ≡ false
 no_two side same = grind (arith, ints)
 
-neither : (a b : Bool) → (a || b) ≡ false → (a ≡ false) × (b ≡ false)
-neither true b is = cc
-neither false b is = (refl, is)
-
 pub fixed_of_test : (sides : List Bounds) → AreSides sides → have_two sides ≡ false → AreFixed sides
 fixed_of_test [] all is = tt
-fixed_of_test (side ∷ sides) all is = let both = neither (has_two side) (have_two sides) is in (one_value side all.0 both.0, fixed_of_test sides all.1 both.1)
+fixed_of_test (side ∷ sides) all is = let both = or_parts (has_two side) (have_two sides) is in (one_value side all.0 both.0, fixed_of_test sides all.1 both.1)
 
 pub test_of_fixed : (sides : List Bounds) → AreFixed sides → have_two sides ≡ false
 test_of_fixed [] fixed = refl
@@ -105,14 +98,14 @@ parted_test sides column at parted = all_three _ _ _ (below _ _ parted.there) (a
 
 module _ (query : Query) (tables : Tables) (columns : List WorldColumn) (best : Option ℤ) (part : ℕ) where
   -- a tree in which nothing is wrong is done and closes
-  pub tree_right : (tree : Tree) (sides : List Bounds) (place : ℕ) → AreSides sides → in_tree query tables columns best tree sides part place ≡ Ok tt → (is_done tree ≡ true) × Closes (value_at query tables columns) best tree sides
+  pub tree_right : (tree : Tree) (sides : List Bounds) (place : ℕ) → AreSides sides → in_tree query tables columns best tree sides part place ≡ Ok tt → (is_done tree ≡ true) × Closes (cost_at query tables columns) best tree sides
   tree_right (closed leaf.Pending) sides place all right = cc
   tree_right (closed leaf.Fixed) sides place all right =
       let alone = unless (not (have_two sides)) reject.NotFixed part place in
       let fixed = unless_ok (not (have_two sides)) reject.NotFixed part place (first_ok alone _ right) in
       let told = asked_ok (judged_at query tables columns (lows sides)) (λ value. unless (not (beats best value)) reject.FixedBeats part place) tt (next_ok alone _ right) in
       let beaten = unless_ok (not (beats best told.0)) reject.FixedBeats part place told.2 in
-      (refl, (fixed_of_test sides all (not_true _ fixed), subst (NoBetter best) (sym (agree query tables columns (lows sides) told.0 told.1)) (no_better best told.0 (not_true _ beaten))))
+      (refl, (fixed_of_test sides all (not-true _ fixed), subst (NoBetter best) (sym (agree query tables columns (lows sides) told.0 told.1)) (no_better best told.0 (not-true _ beaten))))
   tree_right (split column at reason low high) sides place all right =
       let parts = unless (is_parted sides column at) reject.WrongSplit part place in
       let in_low = in_tree query tables columns best low (low_box sides column at) part (place + 1) in
@@ -121,13 +114,10 @@ module _ (query : Query) (tables : Tables) (columns : List WorldColumn) (best : 
       let rest = next_ok parts (in_low >> in_high) right in
       let one = tree_right low (low_box sides column at) (place + 1) (sides_low sides column at all parted) (first_ok in_low in_high rest) in
       let other = tree_right high (high_box sides column at) (place + 1 + length (preorder low)) (sides_high sides column at all parted) (next_ok in_low in_high rest) in
-      (both_true _ _ one.0 other.0, (parted, one.1, other.1))
-    where
-      both_true : (a b : Bool) → a ≡ true → b ≡ true → (a && b) ≡ true
-      both_true a b one other = cc
+      (and_from (is_done low) (is_done high) one.0 other.0, (parted, one.1, other.1))
 
   -- and nothing is wrong in a tree that is done and closes, where no value is too large
-  pub right_tree : (tree : Tree) (sides : List Bounds) (place : ℕ) → is_done tree ≡ true → Closes (value_at query tables columns) best tree sides → IsSoundTree query tables columns tree sides → in_tree query tables columns best tree sides part place ≡ Ok tt
+  pub right_tree : (tree : Tree) (sides : List Bounds) (place : ℕ) → is_done tree ≡ true → Closes (cost_at query tables columns) best tree sides → NoFault (judged_at query tables columns) tree sides → in_tree query tables columns best tree sides part place ≡ Ok tt
   right_tree (closed leaf.Pending) sides place done closes sound = absurd cc
   right_tree (closed leaf.Fixed) sides place done closes sound =
       let told = sound_ok (judged_at query tables columns (lows sides)) sound in
@@ -140,5 +130,5 @@ module _ (query : Query) (tables : Tables) (columns : List WorldColumn) (best : 
       both_ok (unless (is_parted sides column at) reject.WrongSplit part place) _
       (holds_ok (is_parted sides column at) reject.WrongSplit part place (parted_test sides column at closes.0))
       (both_ok (in_tree query tables columns best low (low_box sides column at) part (place + 1)) _
-      (right_tree low (low_box sides column at) (place + 1) (both_first _ _ done) closes.1 sound.0)
-      (right_tree high (high_box sides column at) (place + 1 + length (preorder low)) (both_second _ _ done) closes.2 sound.1))
+      (right_tree low (low_box sides column at) (place + 1) (and_parts (is_done low) (is_done high) done).0 closes.1 (neither_first (first_fault (judged_at query tables columns) low (low_box sides column at)) (first_fault (judged_at query tables columns) high (high_box sides column at)) sound))
+      (right_tree high (high_box sides column at) (place + 1 + length (preorder low)) (and_parts (is_done low) (is_done high) done).1 closes.2 (neither_later (first_fault (judged_at query tables columns) low (low_box sides column at)) (first_fault (judged_at query tables columns) high (high_box sides column at)) sound)))

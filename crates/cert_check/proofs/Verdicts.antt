@@ -16,8 +16,8 @@ use Rattle.world_def.specs.Columns.{Tables}
 use Rattle.world_points.specs.Points.{root}
 use Rattle.cert_check.specs.declared.fault.CheckFault.TheVariants as fault
 use Rattle.cert_check.specs.declared.fault.Reject.TheVariants as reject
-use Rattle.cert_check.specs.Reasons.{Outcome, ◌>>◌, OrElse, unless, is_finished, has_no_program, have_two, is_the_part, in_part, of_row, IsOfVerdict, IsOutcome, Tells}
-use Rattle.cert_check.specs.Checks.{Gives, TellsOptimal, IsOptimalOutcome, of_part}
+use Rattle.cert_check.specs.Reasons.{Outcome, ◌>>◌, OrElse, unless, is_finished, has_no_program, have_two, is_the_part, in_part, of_row, IsOfVerdict, IsOutcome, TellsFirst}
+use Rattle.cert_check.specs.Checks.{TellsOutcome, TellsOptimal, IsOptimalOutcome, of_part}
 use Rattle.cert_check.proofs.Nodes.{then_ok}
 
 abbrev pub HasTree : PartAnswer → Tree → Type 0
@@ -45,7 +45,7 @@ module _ (query : Query) (tables : Tables) (columns : List WorldColumn) (answer 
     optimal_of outcome of = of_its_verdict (verdict.Optimal objective worlds parts) outcome is refl
         (let trees = trees_of parts all in record { given = of.given; worlds = of.world; trees = trees.0; parts = trees.1; first = of.first trees.0 trees.1 })
 
-    pub tells_optimal : (outcome : Outcome) → TellsOptimal query tables columns objective worlds parts outcome → Tells query tables columns answer outcome
+    pub tells_optimal : (outcome : Outcome) → TellsOptimal query tables columns objective worlds parts outcome → TellsFirst query tables columns answer outcome
     tells_optimal (Ok x) of = optimal_of (Ok tt) of
     tells_optimal (Err fault.Memory) of = tt
     tells_optimal (Err (fault.Wide source number)) of = optimal_of (Err (fault.Wide source number)) of
@@ -55,7 +55,7 @@ module _ (query : Query) (tables : Tables) (columns : List WorldColumn) (answer 
     row_of : (outcome : Outcome) → of_row query tables columns row ≡ outcome → IsOutcome query tables columns answer outcome
     row_of outcome of = of_its_verdict (verdict.FalseRow row) outcome is refl (record { given = None; worlds = refl; trees = []; parts = tt; first = sym of })
 
-    pub tells_row : (outcome : Outcome) → Gives (of_row query tables columns row) outcome → Tells query tables columns answer outcome
+    pub tells_row : (outcome : Outcome) → TellsOutcome (of_row query tables columns row) outcome → TellsFirst query tables columns answer outcome
     tells_row (Ok x) of = row_of (Ok tt) of
     tells_row (Err fault.Memory) of = tt
     tells_row (Err (fault.Wide source number)) of = row_of (Err (fault.Wide source number)) of
@@ -72,7 +72,7 @@ module _ (query : Query) (tables : Tables) (columns : List WorldColumn) (answer 
           first = sym of ∙ ap (λ (o : Outcome). unless (have_two (root columns) && is_the_part (root columns) part) reject.WrongParts 0 0 >> o) (sym (then_ok (in_part query tables columns None part tree)));
         })
 
-    pub tells_no_world : (outcome : Outcome) → ((tree : Tree) → part.tree ≡ preorder tree → Gives (of_part query tables columns part tree) outcome) → Tells query tables columns answer outcome
+    pub tells_no_world : (outcome : Outcome) → ((tree : Tree) → part.tree ≡ preorder tree → TellsOutcome (of_part query tables columns part tree) outcome) → TellsFirst query tables columns answer outcome
     tells_no_world (Ok x) of = no_world_of (Ok tt) whole.tree.0 (sym whole.tree.1) (of whole.tree.0 (sym whole.tree.1))
     tells_no_world (Err fault.Memory) of = tt
     tells_no_world (Err (fault.Wide source number)) of = no_world_of (Err (fault.Wide source number)) whole.tree.0 (sym whole.tree.1) (of whole.tree.0 (sym whole.tree.1))

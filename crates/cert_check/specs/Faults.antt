@@ -11,10 +11,12 @@ use Rattle.cert_check.specs.declared.fault.CheckFault.TheVariants as fault
 abbrev pub as_told : EvalFault → CheckFault
 as_told (eval.Wide source number) = fault.Wide source number
 
+-- what is told of a point that could not be judged
 abbrev pub of_point : PointFault → CheckFault
 of_point (point.Eval wide) = as_told wide
 of_point point.Memory = fault.Memory
 
+-- what is asked, with its fault as a check tells it
 abbrev pub asking : {A : Type 0} → Result A EvalFault → Result A CheckFault
 asking (Ok a) = Ok a
 asking (Err wide) = Err (as_told wide)

@@ -21,9 +21,8 @@ use Rattle.world_def.specs.declared.world.World.{World}
 use Rattle.world_def.specs.Columns.{Tables}
 use Rattle.world_def.specs.Judging.{broken_from, score_asked}
 use Rattle.world_def.specs.Meaning.{IsPossible}
-use Rattle.world_points.specs.Points.{judged_at, root, worth}
+use Rattle.world_points.specs.Points.{judged_at, root, cost}
 use Rattle.cert_check.specs.Faults.{asking}
-use Rattle.cert_check.specs.Parts.{open_columns}
 use Rattle.cert_check.specs.declared.fault.Reject.{Reject}
 use Rattle.cert_check.specs.declared.fault.Reject.TheVariants as reject
 use Rattle.cert_check.specs.declared.fault.CheckFault.{CheckFault}
@@ -55,7 +54,7 @@ beats best None = false
 beats None (Some value) = true
 beats (Some best) (Some value) = int_lt value best
 
--- two values that may be wanting are the same
+-- two values, each of which may be missing, are the same
 abbrev pub is_same : Option ℤ → Option ℤ → Bool
 is_same None None = true
 is_same None (Some value) = false
@@ -66,12 +65,9 @@ is_same (Some best) (Some value) = int_eq best value
 abbrev pub is_parted : List Bounds → ℕ → ℤ → Bool
 is_parted sides column at = nat_lt column (length sides) && int_le (side_at sides column).lo at && int_lt at (side_at sides column).hi
 
-abbrev pub has_two : Bounds → Bool
-has_two side = listing.has_two side
-
 -- some column has two values
 abbrev pub have_two : List Bounds → Bool
-have_two sides = list_any has_two sides
+have_two sides = list_any listing.has_two sides
 
 -- the number stands in this place
 abbrev pub has_at : List ℕ → ℕ → ℕ → Bool
@@ -83,7 +79,7 @@ has_at columns place number = is_it (slice_get columns place)
 
 -- these are the numbers of the columns with two values
 abbrev pub are_open : List ℕ → List Bounds → Bool
-are_open columns sides = bytes_eq columns (open_columns sides)
+are_open columns sides = bytes_eq columns (listing.open_columns sides)
 
 -- the part has the number and the columns of the one part
 abbrev pub is_the_part : List Bounds → PartAnswer → Bool
@@ -102,6 +98,7 @@ parts_of (verdict.FalseRow row) = []
 parts_of (verdict.NoWorld part) = part ∷ []
 parts_of (verdict.Unfinished nodes parts) = parts
 
+-- the work has come to its end
 abbrev pub is_finished : Verdict → Bool
 is_finished (verdict.Optimal objective worlds parts) = true
 is_finished (verdict.FalseRow row) = true
@@ -113,13 +110,13 @@ abbrev pub has_no_program : Answer → Bool
 has_no_program answer = answer.columns == 0 && answer.rows == 0 && answer.formulas == 0
 
 module _ (query : Query) (tables : Tables) where
-  -- what the world of an optimal answer is worth: it does not meet, or the objective is not its score
-  unfoldable pub worth_of : ℤ → World → Result ℤ CheckFault
-  worth_of objective world =
+  -- the cost of an optimal answer's world: it does not meet, or the objective is not its score
+  unfoldable pub cost_of : ℤ → World → Result ℤ CheckFault
+  cost_of objective world =
       and_then (asking (broken_from tables world 1 query.requires_)) (λ broken.
       and_then (unless (is_none broken) reject.WorldBreaks 0 0) (λ meets.
       and_then (asking (score_asked tables world query.aim)) (λ score.
-      and_then (unless (int_eq objective score) reject.WrongObjective 0 0) (λ right. Ok (worth query.aim score)))))
+      and_then (unless (int_eq objective score) reject.WrongObjective 0 0) (λ right. Ok (cost query.aim score)))))
 
   -- the sections give a possible world, or none
   abbrev pub Give : List WorldText → Option World → Type 0
@@ -168,7 +165,7 @@ module _ (query : Query) (tables : Tables) (columns : List WorldColumn) where
   -- for an optimal answer: its sections give no possible world, what is wrong with its world, or in the parts
   abbrev pub of_world : ℤ → List PartAnswer → List Tree → Option World → Outcome
   of_world objective parts trees None = Err (fault.Rejected reject.WrongWorld 0 0)
-  of_world objective parts trees (Some world) = and_then (worth_of query tables objective world) (λ best. of_parts (Some best) parts trees)
+  of_world objective parts trees (Some world) = and_then (cost_of query tables objective world) (λ best. of_parts (Some best) parts trees)
 
   -- for an impossible answer with a row: a column has two values, or the one world meets
   abbrev pub of_row : ℕ → Outcome
@@ -176,6 +173,7 @@ module _ (query : Query) (tables : Tables) (columns : List WorldColumn) where
       unless (row == 0 && not (have_two (root columns))) reject.RowHolds 0 0
       >> and_then (asking (judged_at query tables columns (listing.lows (root columns)))) (λ value. unless (is_none value) reject.RowHolds 0 0)
 
+  -- what is wrong with a verdict whose sections give this world, if one, and whose parts have these trees
   abbrev pub of_verdict : Option World → List Tree → Verdict → Outcome
   of_verdict given trees (verdict.Optimal objective worlds parts) = of_world objective parts trees given
   of_verdict given trees (verdict.FalseRow row) = of_row row
@@ -183,7 +181,7 @@ module _ (query : Query) (tables : Tables) (columns : List WorldColumn) where
       unless (have_two (root columns) && is_the_part (root columns) part) reject.WrongParts 0 0 >> in_parts None (part ∷ []) trees
   of_verdict given trees (verdict.Unfinished nodes parts) = Ok tt
 
-  -- what is wrong with a verdict, where its sections give this world, if one, and its parts have these trees
+  -- the same, for the world that its sections give and the trees that its parts have
   pub record IsOfVerdict (answer : Verdict) (outcome : Outcome) : Type 0 where
     pub given : Option World
     pub worlds : IsGiven query tables answer given
@@ -198,9 +196,9 @@ module _ (query : Query) (tables : Tables) (columns : List WorldColumn) where
       OrElse (unless (is_finished answer.verdict) reject.Unfinished 0 0 >> unless (has_no_program answer) reject.WrongProgram 0 0) outcome
       (IsOfVerdict answer.verdict outcome)
 
-  -- what is told of an answer is what a check comes to, unless memory was wanting
-  abbrev pub Tells : Answer → Outcome → Type 0
-  Tells answer (Ok x) = IsOutcome answer (Ok tt)
-  Tells answer (Err fault.Memory) = Unit {0}
-  Tells answer (Err (fault.Wide source number)) = IsOutcome answer (Err (fault.Wide source number))
-  Tells answer (Err (fault.Rejected reason part node)) = IsOutcome answer (Err (fault.Rejected reason part node))
+  -- what is told of an answer is what a check comes to, unless memory ran out
+  abbrev pub TellsFirst : Answer → Outcome → Type 0
+  TellsFirst answer (Ok x) = IsOutcome answer (Ok tt)
+  TellsFirst answer (Err fault.Memory) = Unit {0}
+  TellsFirst answer (Err (fault.Wide source number)) = IsOutcome answer (Err (fault.Wide source number))
+  TellsFirst answer (Err (fault.Rejected reason part node)) = IsOutcome answer (Err (fault.Rejected reason part node))

@@ -1,24 +1,21 @@
 -- The answers that a check accepts, by what stands in them alone.
-use Rattle.std.specs.Prelude.{◌≡◌, ℕ, ℤ, List, [], ◌∷◌, position, Option, Some, None, IsSome, Result, Ok, Err, All, true}
+use Rattle.std.specs.Prelude.{◌≡◌, ℕ, ℤ, List, [], ◌∷◌, position, Option, Some, None, IsSome, All, true}
 use Rattle.tiql_query.specs.declared.query.Query.{Query}
 use Rattle.tiql_query.specs.declared.world_column.WorldColumn.{WorldColumn}
-use Rattle.ip_rows.specs.declared.Bounds.{Bounds}
 use Rattle.branch_tree.specs.declared.node.Leaf.TheVariants as leaf
-use Rattle.branch_tree.specs.Boxes.{low_box, high_box}
-use Rattle.branch_tree.specs.Tree.{Tree, closed, split, preorder}
-use Rattle.branch_tree.specs.Listing.{AreFixed, Closes, has_two, is_done, lows}
+use Rattle.branch_tree.specs.Tree.{Tree, closed, preorder}
+use Rattle.branch_tree.specs.Faults.{IsSound, NoFault}
+use Rattle.branch_tree.specs.Listing.{AreFixed, Closes, has_two, is_done, open_columns}
 use Rattle.answer_text.specs.Worlds.{IsWorldOf}
 use Rattle.answer_text.specs.declared.answer.Answer.{Answer}
 use Rattle.answer_text.specs.declared.answer.PartAnswer.{PartAnswer}
 use Rattle.answer_text.specs.declared.answer.Verdict.{Verdict}
 use Rattle.answer_text.specs.declared.answer.Verdict.TheVariants as verdict
 use Rattle.answer_text.specs.declared.answer.WorldText.{WorldText}
-use Rattle.world_def.specs.declared.fault.EvalFault.{EvalFault}
 use Rattle.world_def.specs.declared.world.World.{World}
 use Rattle.world_def.specs.Columns.{Tables}
 use Rattle.world_def.specs.Meaning.{IsBest, IsPossible, Meets, NoneMeets, score}
-use Rattle.world_points.specs.Points.{judged, judged_at, root, value_at, worth}
-use Rattle.cert_check.specs.Parts.{open_columns}
+use Rattle.world_points.specs.Points.{judged, judged_at, root, cost_at, cost}
 
 -- the one part: it has the columns with two values and this best value, its tree parts the whole box, no node is open, and every
 -- leaf closes against the best value
@@ -29,7 +26,7 @@ pub record IsClosed (query : Query) (tables : Tables) (columns : List WorldColum
   pub tree : Tree
   pub nodes : part.tree ≡ preorder tree
   pub done : is_done tree ≡ true
-  pub closes : Closes (value_at query tables columns) best tree (root columns)
+  pub closes : Closes (cost_at query tables columns) best tree (root columns)
 
 -- one part where a column has two values, else none
 abbrev pub AreClosedFor : Query → Tables → List WorldColumn → Option ℤ → Option ℕ → List PartAnswer → Type 0
@@ -43,7 +40,7 @@ pub record IsValidOptimal (query : Query) (tables : Tables) (columns : List Worl
   pub possible : IsPossible query tables world
   pub meets : Meets query tables world
   pub value : objective ≡ score query.aim tables world
-  pub closed : AreClosedFor query tables columns (Some (worth query.aim objective)) (position has_two (root columns)) parts
+  pub closed : AreClosedFor query tables columns (Some (cost query.aim objective)) (position has_two (root columns)) parts
 
 -- an impossible answer with a false row: no column has two values, and the one possible world does not meet
 pub record IsValidRow (query : Query) (tables : Tables) (columns : List WorldColumn) (row : ℕ) : Type 0 where
@@ -56,6 +53,7 @@ pub record IsValidPart (query : Query) (tables : Tables) (columns : List WorldCo
   pub several : IsSome (position has_two (root columns))
   pub closed : IsClosed query tables columns None part
 
+-- the verdict of a valid answer
 abbrev pub IsValidVerdict : Query → Tables → List WorldColumn → Verdict → Type 0
 IsValidVerdict query tables columns (verdict.Optimal objective worlds parts) = IsValidOptimal query tables columns objective worlds parts
 IsValidVerdict query tables columns (verdict.FalseRow row) = IsValidRow query tables columns row
@@ -77,26 +75,16 @@ IsRight query tables (verdict.FalseRow row) = NoneMeets query tables
 IsRight query tables (verdict.NoWorld part) = NoneMeets query tables
 IsRight query tables (verdict.Unfinished nodes parts) = ⊥
 
--- no value of what is asked is too large
-abbrev pub IsSound : {A : Type 0} → Result A EvalFault → Type 0
-IsSound (Ok a) = Unit {0}
-IsSound (Err wide) = ⊥
-
 module _ (query : Query) (tables : Tables) (columns : List WorldColumn) where
-  -- no value is too large in the worlds of the leaves
-  abbrev pub IsSoundTree : Tree → List Bounds → Type 0
-  IsSoundTree (closed leaf.Pending) sides = Unit {0}
-  IsSoundTree (closed leaf.Fixed) sides = IsSound (judged_at query tables columns (lows sides))
-  IsSoundTree (split column at reason low high) sides = IsSoundTree low (low_box sides column at) × IsSoundTree high (high_box sides column at)
-
+  -- no value is too large in the worlds of the leaves of a part
   abbrev pub IsSoundPart : PartAnswer → Type 0
-  IsSoundPart part = (tree : Tree) → part.tree ≡ preorder tree → IsSoundTree tree (root columns)
+  IsSoundPart part = (tree : Tree) → part.tree ≡ preorder tree → NoFault (judged_at query tables columns) tree (root columns)
 
-  -- nor in any world that a check of the answer judges: the one of its sections, those of the leaves, and the one world where no column
+  -- no value is too large in any world that a check of the answer judges: the one of its sections, those of the leaves, and the one world where no column
   -- has two values
   abbrev pub NoFaults : Verdict → Type 0
   NoFaults (verdict.Optimal objective worlds parts) =
       ((world : World) → IsWorldOf query tables worlds world → IsSound (judged query tables world)) × All IsSoundPart parts
-  NoFaults (verdict.FalseRow row) = IsSound (judged_at query tables columns (lows (root columns)))
+  NoFaults (verdict.FalseRow row) = NoFault (judged_at query tables columns) (closed leaf.Fixed) (root columns)
   NoFaults (verdict.NoWorld part) = IsSoundPart part
   NoFaults (verdict.Unfinished nodes parts) = Unit {0}

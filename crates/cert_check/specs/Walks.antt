@@ -31,15 +31,17 @@ boxes walk = if walk.over then [] else walk.sides ∷ waiting walk.sides (revers
 unfoldable pub IsWalk : Walk → Type 0
 IsWalk walk = All (λ turn. turn.column < length walk.sides) walk.turns
 
--- the boxes behind a split at the first of them, and behind a leaf there
+-- the boxes behind a split at the first of them
 abbrev pub split_first : ℕ → ℤ → List (List Bounds) → List (List Bounds)
 split_first column at [] = []
 split_first column at (sides ∷ more) = low_box sides column at ∷ high_box sides column at ∷ more
 
+-- the boxes behind a leaf at the first of them
 abbrev pub behind_first : List (List Bounds) → List (List Bounds)
 behind_first [] = []
 behind_first (sides ∷ more) = more
 
+-- the boxes behind a node at the first of them
 abbrev pub behind_node : Node → List (List Bounds) → List (List Bounds)
 behind_node (node.Split column at reason) more = split_first column at more
 behind_node (node.Closed leaf) more = behind_first more

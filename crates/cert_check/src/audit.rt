@@ -2,6 +2,7 @@
 
 ghost use Rattle.std.specs.Prelude.{◌≡◌, length};
 ghost use Rattle.branch_tree.specs.Tree.{Tree, preorder};
+ghost use Rattle.world_points.specs.Subject.{IsSubject};
 ghost use Rattle.cert_check.specs.Checks as told;
 ghost use Rattle.cert_check.specs.Reasons as spec;
 ghost use Rattle.cert_check.specs.Walks as walk;
@@ -32,9 +33,9 @@ impl Audit<'_> {
         root: List<Bounds>,
         tree: &Branches,
     ) -> Result<(), CheckFault>
-        requires subject { told.IsSubject self.now.subject }
+        requires subject { IsSubject self.now.subject.query.now self.now.subject.tables.now self.now.subject.columns.now }
         requires long { length root ≡ length self.now.subject.columns.now }
-        ensures { (whole : Tree) → tree.now ≡ preorder whole → told.Gives (spec.in_tree self.now.subject.query.now self.now.subject.tables.now self.now.subject.columns.now self.now.best whole root self.now.part 1) result }
+        ensures { (whole : Tree) → tree.now ≡ preorder whole → told.TellsOutcome (spec.in_tree self.now.subject.query.now self.now.subject.tables.now self.now.subject.columns.now self.now.best whole root self.now.part 1) result }
     {
         let mut walk = Walk::new(alloc, root);
         for (at, node) in tree.nodes().as_slice().iter().enumerate() {
@@ -55,9 +56,9 @@ impl Audit<'_> {
         sides: &[Bounds],
         place: u32,
     ) -> Result<(), CheckFault>
-        requires subject { told.IsSubject self.now.subject }
+        requires subject { IsSubject self.now.subject.query.now self.now.subject.tables.now self.now.subject.columns.now }
         requires long { length sides.now ≡ length self.now.subject.columns.now }
-        ensures { told.Gives (walk.at_node self.now.subject.query.now self.now.subject.tables.now self.now.subject.columns.now self.now.best self.now.part node.now sides.now place) result }
+        ensures { told.TellsOutcome (walk.at_node self.now.subject.query.now self.now.subject.tables.now self.now.subject.columns.now self.now.best self.now.part node.now sides.now place) result }
     {
         match node {
             Node::Split { column, at, .. } => {
@@ -70,9 +71,9 @@ impl Audit<'_> {
 
     /// Checks a leaf whose box is said to have one world.
     fn check_fixed(&self, alloc: Global, sides: &[Bounds], place: u32) -> Result<(), CheckFault>
-        requires subject { told.IsSubject self.now.subject }
+        requires subject { IsSubject self.now.subject.query.now self.now.subject.tables.now self.now.subject.columns.now }
         requires long { length sides.now ≡ length self.now.subject.columns.now }
-        ensures { told.Gives (spec.at_leaf self.now.subject.query.now self.now.subject.tables.now self.now.subject.columns.now self.now.best Leaf.Fixed sides.now self.now.part place) result }
+        ensures { told.TellsOutcome (spec.at_leaf self.now.subject.query.now self.now.subject.tables.now self.now.subject.columns.now self.now.best Leaf.Fixed sides.now self.now.part place) result }
     {
         self.need(!have_two(sides), Reject::NotFixed, place)?;
         let value = self.subject.judge(alloc, sides)?;

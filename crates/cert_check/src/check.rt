@@ -4,11 +4,12 @@ ghost use Rattle.std.specs.Prelude.{◌≡◌, ◌<◌, Ok, List, IfOk, MatchRes
 ghost use Rattle.std.specs.List.{AllZip};
 ghost use Rattle.answer_text.specs.Answers.{IsAnswer};
 ghost use Rattle.branch_tree.specs.Tree.{Tree, preorder};
-ghost use Rattle.tables_csv.specs.QueryTables.{AreTables};
+ghost use Rattle.tiql_query.specs.Rows.{AreTables};
 ghost use Rattle.tiql_query.specs.WellFormed.{IsWellFormed};
 ghost use Rattle.world_def.specs.Columns.{IsSmall, columns_of};
 ghost use Rattle.world_def.specs.Judging.{IsSmallWorld};
 ghost use Rattle.world_points.specs.Points as points;
+ghost use Rattle.world_points.specs.Subject.{IsSubject};
 ghost use Rattle.cert_check.specs.Checks as told;
 ghost use Rattle.cert_check.specs.Reasons as spec;
 ghost use Rattle.cert_check.specs.Valid.{IsRight, IsValid, NoFaults};
@@ -23,13 +24,13 @@ use ip_rows::Bounds;
 use std::alloc::Global;
 use tiql_query::{Query, WorldColumn};
 use world_def::{Tables, World, meets, score};
-use world_points::{sides_of, worth};
+use world_points::{cost, sides_of};
 
 /// Checks an answer to a query over its tables: nothing where it is valid, else its first reason, or the first value that
 /// is too large in a world that is judged before a reason comes (docs/ANSWERS.md).
 ///
 /// The query is well formed and has no view, the tables are its own, the columns are those of `world_columns` for them, and
-/// the answer is one that was read. It goes once over the nodes of a tree, without recursion.
+/// the answer is one that was read.
 pub fn check_listed(
     alloc: Global,
     query: &Query,
@@ -45,10 +46,10 @@ pub fn check_listed(
     requires answer { IsAnswer answer.now }
 
     // The first reason is told, with its part and node, and so is a value that is too large.
-    ensures reason { spec.Tells query.now tables.now columns.now answer.now result }
+    ensures reason { spec.TellsFirst query.now tables.now columns.now answer.now result }
 
     // An answer that is accepted is valid, and a valid one is accepted where no judged world has a value that is too large,
-    // unless memory is wanting.
+    // unless memory runs out.
     ensures valid { IfOk result (λ _. IsValid query.now tables.now columns.now answer.now) }
     ensures accepted { IsValid query.now tables.now columns.now answer.now → NoFaults query.now tables.now columns.now answer.now.verdict
         → MatchResult result (λ _. ⊤) (λ fault. fault ≡ CheckFault.Memory) }
@@ -66,9 +67,9 @@ pub fn check_listed(
 
 /// Checks an answer.
 fn check_answer(alloc: Global, subject: &Subject, answer: &Answer) -> Result<(), CheckFault>
-    requires subject { told.IsSubject subject.now }
+    requires subject { IsSubject subject.now.query.now subject.now.tables.now subject.now.columns.now }
     requires answer { IsAnswer answer.now }
-    ensures { spec.Tells subject.now.query.now subject.now.tables.now subject.now.columns.now answer.now result }
+    ensures { spec.TellsFirst subject.now.query.now subject.now.tables.now subject.now.columns.now answer.now result }
 {
     match &answer.verdict {
         Verdict::Optimal {
@@ -124,7 +125,7 @@ fn check_optimal(
     worlds: &List<WorldText>,
     parts: &[PartAnswer],
 ) -> Result<(), CheckFault>
-    requires { told.IsSubject subject.now }
+    requires { IsSubject subject.now.query.now subject.now.tables.now subject.now.columns.now }
     ensures { told.TellsOptimal subject.now.query.now subject.now.tables.now subject.now.columns.now objective worlds.now parts.now result }
 {
     let Some(world) = subject.given(alloc, worlds)? else {
@@ -134,24 +135,24 @@ fn check_optimal(
     check_parts(alloc, subject, Some(best), parts)
 }
 
-/// Checks that a world meets and has the objective as its score. It gives what the world is worth.
-#[tactic(auto, unfolding(crate::specs::Reasons::worth_of))]
+/// Checks that a world meets and has the objective as its score. It gives the world's cost.
+#[tactic(auto, unfolding(crate::specs::Reasons::cost_of))]
 fn check_world(subject: &Subject, objective: i64, world: &World) -> Result<i128, CheckFault>
-    requires subject { told.IsSubject subject.now }
+    requires subject { IsSubject subject.now.query.now subject.now.tables.now subject.now.columns.now }
     requires small { IsSmallWorld subject.now.tables.now world.now }
-    ensures { result ≡ spec.worth_of subject.now.query.now subject.now.tables.now objective world.now }
+    ensures { result ≡ spec.cost_of subject.now.query.now subject.now.tables.now objective world.now }
 {
     let broken = meets(subject.query, subject.tables, world)?;
     need(broken.is_none(), Reject::WorldBreaks)?;
     let value = score(subject.query, subject.tables, world)?;
     need(i128::from(objective) == value, Reject::WrongObjective)?;
-    Ok(worth(&subject.query.aim, value))
+    Ok(cost(&subject.query.aim, value))
 }
 
 /// Checks an impossible answer with a row.
 fn check_row(alloc: Global, subject: &Subject, row: u32) -> Result<(), CheckFault>
-    requires { told.IsSubject subject.now }
-    ensures { told.Gives (spec.of_row subject.now.query.now subject.now.tables.now subject.now.columns.now row) result }
+    requires { IsSubject subject.now.query.now subject.now.tables.now subject.now.columns.now }
+    ensures { told.TellsOutcome (spec.of_row subject.now.query.now subject.now.tables.now subject.now.columns.now row) result }
 {
     let root = sides_of(alloc, subject.columns.as_slice())?;
     need(row == 0 && !have_two(root.as_slice()), Reject::RowHolds)?;
@@ -161,8 +162,8 @@ fn check_row(alloc: Global, subject: &Subject, row: u32) -> Result<(), CheckFaul
 
 /// Checks an impossible answer with a part.
 fn check_no_world(alloc: Global, subject: &Subject, part: &PartAnswer) -> Result<(), CheckFault>
-    requires { told.IsSubject subject.now }
-    ensures { (tree : Tree) → part.now.tree ≡ preorder tree → told.Gives (told.of_part subject.now.query.now subject.now.tables.now subject.now.columns.now part.now tree) result }
+    requires { IsSubject subject.now.query.now subject.now.tables.now subject.now.columns.now }
+    ensures { (tree : Tree) → part.now.tree ≡ preorder tree → told.TellsOutcome (told.of_part subject.now.query.now subject.now.tables.now subject.now.columns.now part.now tree) result }
 {
     let root = sides_of(alloc, subject.columns.as_slice())?;
     need(
@@ -179,8 +180,8 @@ fn check_parts(
     best: Option<i128>,
     parts: &[PartAnswer],
 ) -> Result<(), CheckFault>
-    requires { told.IsSubject subject.now }
-    ensures { (trees : List Tree) → AllZip (λ part tree. part.tree ≡ preorder tree) parts.now trees → told.Gives (spec.of_parts subject.now.query.now subject.now.tables.now subject.now.columns.now best parts.now trees) result }
+    requires { IsSubject subject.now.query.now subject.now.tables.now subject.now.columns.now }
+    ensures { (trees : List Tree) → AllZip (λ part tree. part.tree ≡ preorder tree) parts.now trees → told.TellsOutcome (spec.of_parts subject.now.query.now subject.now.tables.now subject.now.columns.now best parts.now trees) result }
 {
     let root = sides_of(alloc, subject.columns.as_slice())?;
     need(are_all_parts(root.as_slice(), parts), Reject::WrongParts)?;
@@ -198,9 +199,9 @@ fn check_part(
     best: Option<i128>,
     part: &PartAnswer,
 ) -> Result<(), CheckFault>
-    requires subject { told.IsSubject subject.now }
+    requires subject { IsSubject subject.now.query.now subject.now.tables.now subject.now.columns.now }
     requires root { root ≡ points.root subject.now.columns.now }
-    ensures { (tree : Tree) → part.now.tree ≡ preorder tree → told.Gives (spec.in_part subject.now.query.now subject.now.tables.now subject.now.columns.now best part.now tree) result }
+    ensures { (tree : Tree) → part.now.tree ≡ preorder tree → told.TellsOutcome (spec.in_part subject.now.query.now subject.now.tables.now subject.now.columns.now best part.now tree) result }
 {
     if part.best != best {
         return Err(CheckFault::Rejected {

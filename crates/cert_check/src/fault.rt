@@ -59,7 +59,7 @@ pub enum CheckFault {
         /// The value.
         number: i128,
     },
-    /// There was not enough memory.
+    /// Memory ran out.
     #[error("out of memory")]
     Memory,
 }

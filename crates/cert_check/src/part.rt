@@ -1,6 +1,7 @@
 //! The one part of an answer: the columns with two values.
 
 ghost use Rattle.std.specs.Prelude.{◌≡◌, ◌<◌, length};
+ghost use Rattle.branch_tree.specs.Listing as listing;
 ghost use Rattle.cert_check.specs.Reasons as spec;
 
 use answer_text::PartAnswer;
@@ -15,7 +16,7 @@ pub fn have_two(sides: &[Bounds]) -> bool
 
 /// Whether a column has two values.
 fn has_two(side: &Bounds) -> bool
-    ensures { result ≡ spec.has_two side.now }
+    ensures { result ≡ listing.has_two side.now }
 {
     side.lo < side.hi
 }

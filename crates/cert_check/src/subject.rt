@@ -3,12 +3,14 @@
 ghost use Rattle.std.specs.Prelude.{◌≡◌, IfOk, length};
 ghost use Rattle.branch_tree.specs.Listing.{lows};
 ghost use Rattle.world_points.specs.Points as points;
+ghost use Rattle.world_points.specs.Subject.{IsSubject};
 ghost use Rattle.cert_check.specs.Checks as told;
 ghost use Rattle.cert_check.specs.Reasons as spec;
 
 use crate::fault::CheckFault;
 use answer_text::{WorldFault, WorldText, world_of};
 use base_kit::{List, Memory};
+use branch_tree::lowest_point;
 use ip_rows::Bounds;
 use std::alloc::Global;
 use tiql_query::{Query, WorldColumn};
@@ -26,7 +28,7 @@ pub struct Subject<'a> {
 impl Subject<'_> {
     /// The possible world that sections give, or none (docs/ANSWERS.md).
     pub fn given(&self, alloc: Global, worlds: &List<WorldText>) -> Result<Option<World>, Memory>
-        requires { told.IsSubject self.now }
+        requires { IsSubject self.now.query.now self.now.tables.now self.now.columns.now }
         ensures { IfOk result (spec.Give self.now.query.now self.now.tables.now worlds.now) }
     {
         let world = match world_of(alloc, self.query, self.tables, worlds) {
@@ -40,13 +42,13 @@ impl Subject<'_> {
         Ok(Some(world))
     }
 
-    /// What the least point of a box is worth, where it is the point of a possible world that meets.
+    /// The cost of the least point of a box, where it is the point of a possible world that meets.
     pub fn judge(&self, alloc: Global, sides: &[Bounds]) -> Result<Option<i128>, CheckFault>
-        requires subject { told.IsSubject self.now }
+        requires subject { IsSubject self.now.query.now self.now.tables.now self.now.columns.now }
         requires long { length sides.now ≡ length self.now.columns.now }
         ensures { told.Judges (points.judged_at self.now.query.now self.now.tables.now self.now.columns.now (lows sides.now)) result }
     {
-        let point = lows_of(alloc, sides)?;
+        let point = lowest_point(alloc, sides)?;
         Ok(judge_point(
             alloc,
             self.query,
@@ -55,15 +57,4 @@ impl Subject<'_> {
             point.as_slice(),
         )?)
     }
-}
-
-/// The least point of a box.
-fn lows_of(alloc: Global, sides: &[Bounds]) -> Result<List<i64>, Memory>
-    ensures { IfOk result (λ point. point ≡ lows sides.now) }
-{
-    let mut point = List::new(alloc);
-    for side in sides {
-        point.push(side.lo)?;
-    }
-    Ok(point)
 }

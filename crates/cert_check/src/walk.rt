@@ -1,13 +1,12 @@
 //! A walk over the nodes of a tree in preorder, with the box of each.
 
-ghost use Rattle.std.specs.Prelude.{◌≡◌, ◌∷◌, [], OnOk, MatchOption, ◌<ℤ◌};
-ghost use Rattle.branch_tree.specs.Boxes.{low_side, high_side};
+ghost use Rattle.std.specs.Prelude.{◌≡◌, ◌∷◌, [], OnOk, MatchOption};
 ghost use Rattle.branch_tree.specs.declared.node.Node.TheVariants.{Split};
 ghost use Rattle.branch_tree.specs.declared.node.Reason.TheVariants.{Plain};
 ghost use Rattle.cert_check.specs.Walks as spec;
 
 use base_kit::{List, Memory};
-use branch_tree::Node;
+use branch_tree::{Node, high_side, low_side};
 use ip_rows::Bounds;
 use std::alloc::Global;
 
@@ -21,8 +20,8 @@ pub struct Turn {
     next: Option<Bounds>,
 }
 
-/// Stands at the box of a node, and knows the boxes behind it by the splits above: each step takes a bounded time on
-/// average, and the memory is that of one box and of the splits above it.
+/// Stands at the box of a node. It keeps that box and the splits above it, from which the boxes behind it follow, so that
+/// the boxes are not all kept at once.
 #[derive(Debug, Drop)]
 pub struct Walk {
     sides: List<Bounds>,
@@ -78,9 +77,9 @@ impl Walk {
     {
         let place = column as usize;
         let side = self.sides.as_slice()[place];
-        let next = Some(above(side, at));
+        let next = Some(high_side(side, at));
         self.turns.push(Turn { column, side, next })?;
-        self.sides.set(place, up_to(side, at));
+        self.sides.set(place, low_side(side, at));
         Ok(())
     }
 
@@ -101,26 +100,5 @@ impl Walk {
         }
         self.over = true;
         Ok(())
-    }
-}
-
-/// The numbers of a side up to `at`.
-fn up_to(side: Bounds, at: i64) -> Bounds
-    ensures { result ≡ low_side side at }
-{
-    Bounds {
-        lo: side.lo,
-        hi: at,
-    }
-}
-
-/// The numbers of a side above `at`.
-fn above(side: Bounds, at: i64) -> Bounds
-    requires { at <ℤ side.hi }
-    ensures { result ≡ high_side side at }
-{
-    Bounds {
-        lo: at + 1,
-        hi: side.hi,
     }
 }

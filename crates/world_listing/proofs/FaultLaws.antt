@@ -2,7 +2,7 @@
 use Rattle.std.proofs.Common.{◌≡◌, ℕ, zero, suc, ◌+◌, ◌<◌, ◌≤◌, ℤ, pos, ◌+ℤ◌, ◌≤ℤ◌, ◌<ℤ◌, List, [], ◌∷◌, Bool, true, false, refl, sym, ◌∙◌, ap, ap₂, subst, arith, ◌⊎◌, inl, inr}
 use Rattle.std.specs.Prelude.{Option, Some, None, Result, Ok, IsSome, position}
 use Rattle.std.proofs.lemmas.Int.{ints}
-use Rattle.std.proofs.lemmas.Bool.{cases_lt}
+use Rattle.std.proofs.lemmas.Bool.{cases_lt, and_parts}
 use Rattle.ip_rows.specs.declared.Bounds.{Bounds}
 use Rattle.branch_tree.specs.declared.node.Leaf.TheVariants as leaf
 use Rattle.branch_tree.specs.declared.node.Reason.{Reason}
@@ -11,7 +11,6 @@ use Rattle.branch_tree.specs.Tree.{Tree, closed, split, worked_of}
 use Rattle.branch_tree.specs.Boxes.{side_at, low_box, high_box}
 use Rattle.branch_tree.specs.Listing.{AreFixed, IsFirstOpen, IsListing, IsInOrder, IsMiddle, has_two, is_done}
 use Rattle.branch_tree.proofs.Columns.{open_has_two}
-use Rattle.branch_tree.proofs.Covering.{both_first, both_second}
 use Rattle.branch_tree.proofs.Columns.{one_point}
 use Rattle.answer_text.specs.declared.answer.Answer.{Answer}
 use Rattle.answer_text.specs.declared.answer.PartAnswer.{PartAnswer}
@@ -23,8 +22,9 @@ use Rattle.world_def.specs.Columns.{Tables, columns_of}
 use Rattle.world_def.specs.declared.fault.EvalFault.{EvalFault}
 use Rattle.world_points.specs.Points.{judged_at, root}
 use Rattle.world_points.proofs.Ordered.{sides_there}
-use Rattle.world_listing.specs.Faults.{FaultsIn, NoFault, first_fault, or_later}
-use Rattle.world_listing.specs.Parts.{Answers, AreParts, ArePartsFor, IsListed, IsSound, Tells}
+use Rattle.branch_tree.specs.Faults.{NoFault, first_fault, or_later}
+use Rattle.world_listing.specs.Faults.{FaultsIn}
+use Rattle.world_listing.specs.Parts.{Answers, AreParts, ArePartsFor, IsListed, IsOneSound, IsVerdictFor}
 
 -- a box of one point is not split
 pub fixed_side : (sides : List Bounds) (column : ℕ) → AreFixed sides → (side_at sides column).lo ≡ (side_at sides column).hi
@@ -77,8 +77,8 @@ done_most (closed leaf.Fixed) (split d b r low high) sides here there done = ome
 done_most (split c a r low high) (closed leaf.Pending) sides here there done = absurd cc
 done_most (split c a r low high) (closed leaf.Fixed) sides here there done = absurd (fixed_whole sides c there here.0)
 done_most (split c a r low high) (split d b s down up) sides here there done =
-    let one : worked_of low ≤ worked_of down = done_most low down (low_box sides c a) here.2 (subst (IsListing down) (low_same sides c d a b here.0 there.0 here.1 there.1) there.2) (both_first (is_done down) (is_done up) done) in
-    let two : worked_of high ≤ worked_of up = done_most high up (high_box sides c a) here.3 (subst (IsListing up) (high_same sides c d a b here.0 there.0 here.1 there.1) there.3) (both_second (is_done down) (is_done up) done) in
+    let one : worked_of low ≤ worked_of down = done_most low down (low_box sides c a) here.2 (subst (IsListing down) (low_same sides c d a b here.0 there.0 here.1 there.1) there.2) (and_parts (is_done down) (is_done up) done).0 in
+    let two : worked_of high ≤ worked_of up = done_most high up (high_box sides c a) here.3 (subst (IsListing up) (high_same sides c d a b here.0 there.0 here.1 there.1) there.3) (and_parts (is_done down) (is_done up) done).1 in
     omega arith
 
 -- two done listings are one
@@ -90,8 +90,8 @@ done_one (closed leaf.Fixed) (split d b s down up) sides here there done whole =
 done_one (split c a r low high) (closed leaf.Pending) sides here there done whole = absurd cc
 done_one (split c a r low high) (closed leaf.Fixed) sides here there done whole = absurd (fixed_whole sides c there here.0)
 done_one (split c a r low high) (split d b s down up) sides here there done whole =
-    let one : low ≡ down = done_one low down (low_box sides c a) here.2 (subst (IsListing down) (low_same sides c d a b here.0 there.0 here.1 there.1) there.2) (both_first (is_done low) (is_done high) done) (both_first (is_done down) (is_done up) whole) in
-    let two : high ≡ up = done_one high up (high_box sides c a) here.3 (subst (IsListing up) (high_same sides c d a b here.0 there.0 here.1 there.1) there.3) (both_second (is_done low) (is_done high) done) (both_second (is_done down) (is_done up) whole) in
+    let one : low ≡ down = done_one low down (low_box sides c a) here.2 (subst (IsListing down) (low_same sides c d a b here.0 there.0 here.1 there.1) there.2) (and_parts (is_done low) (is_done high) done).0 (and_parts (is_done down) (is_done up) whole).0 in
+    let two : high ≡ up = done_one high up (high_box sides c a) here.3 (subst (IsListing up) (high_same sides c d a b here.0 there.0 here.1 there.1) there.3) (and_parts (is_done low) (is_done high) done).1 (and_parts (is_done down) (is_done up) whole).1 in
     let column : d ≡ c = column_is sides c d a b here.0 there.0 here.1 there.1 in
     let at : b ≡ a = at_is sides c d a b here.0 there.0 here.1 there.1 in
     let why : r ≡ s = same_reason r s in
@@ -204,7 +204,7 @@ module _ (query : Query) (tables : Tables) (columns : List WorldColumn) where
       by_done false e = let spent = listed.spent e in let within = faults.within several in omega (arith, spent, within)
 
   -- nor where the one world is told
-  pub sound_excludes : (budget : ℕ) (told : EvalFault) → AreFixed (root columns) → IsSound query tables columns → FaultsIn query tables columns budget told → ⊥
+  pub sound_excludes : (budget : ℕ) (told : EvalFault) → AreFixed (root columns) → IsOneSound query tables columns → FaultsIn query tables columns budget told → ⊥
   sound_excludes budget told fixed sound faults =
       none_before (judged_at query tables columns) faults.tree (closed leaf.Fixed) (root columns) told faults.listing fixed faults.in_order tt (done_most faults.tree (closed leaf.Fixed) (root columns) faults.listing fixed refl) sound faults.first
 
@@ -220,7 +220,7 @@ module _ (query : Query) (tables : Tables) (columns : List WorldColumn) where
     pub answer_excludes : (answer : Answer) → Answers query tables columns budget answer → ⊥
     answer_excludes answer answers = by_verdict answer.verdict answers.verdict
       where
-        by_verdict : (verdict : Verdict) → Tells query tables columns budget verdict → ⊥
+        by_verdict : (verdict : Verdict) → IsVerdictFor query tables columns budget verdict → ⊥
         by_verdict (verdict.Optimal objective worlds parts) tells = parts_exclude _ parts tells.listed
         by_verdict (verdict.FalseRow row) tells = sound_excludes budget told tells.fixed tells.sound faults
         by_verdict (verdict.NoWorld part) tells = fault_excludes budget part told tells.several tells.whole.listed faults

@@ -2,5 +2,5 @@ pub mod FaultLaws
 pub mod Sizes
 pub mod Steps
 pub mod Tells
+pub mod Texts
 pub mod Widths
-pub mod WorkedFit

@@ -1,4 +1,4 @@
--- How large what a listing holds may be: its columns, and what its worlds are worth.
+-- How large what a listing holds may be: its columns, and the costs of its worlds.
 use Rattle.std.proofs.Common.{◌≡◌, ℕ, ◌+◌, ◌<◌, ◌≤◌, ◌^◌, ℤ, pos, Bool, true, false, List, [], ◌∷◌, ◌++◌, length, map, refl, subst, arith, if◌then◌else◌, length-append}
 use Rattle.std.specs.Prelude.{Some, None, Result, Ok, Err, unsigned_abs, nat_lt, is_none}
 use Rattle.std.proofs.lemmas.Bool.Decides.{nat_tests}
@@ -23,7 +23,7 @@ use Rattle.world_def.specs.Columns.{Rows, Tables, cell_column, columns_of, insid
 use Rattle.world_def.specs.Judging.{broken_from, named, rows_in, score_asked, sum_over}
 use Rattle.world_def.specs.Turns.{turns}
 use Rattle.world_def.proofs.Agreed.{and_then-Ok, same_answer}
-use Rattle.world_points.specs.Points.{is_of_world, judged, judged_at, world_at, worth}
+use Rattle.world_points.specs.Points.{is_of_world, judged, judged_at, world_at, cost}
 
 -- what each turn keeps, all keep
 turns_keep : {E S X : Type 0} (P : S → Type 0) (f : ℕ → X → S → Result S E) → ((n : ℕ) (x : X) (s t : S) → P s → f n x s ≡ Ok t → P t) →
@@ -107,31 +107,31 @@ score_small (aims.Sum maximize source part) tables world n e = by_sum (sum_over 
     by_sum (Ok m) is h = subst (λ (k : ℤ). unsigned_abs k ≤ 10 ^ 17) (same_answer m n h) (sum_small part (rows_in tables world source) m is)
     by_sum (Err wide) is h = cc
 
-worth_small : (aim : Aim) (n : ℤ) → unsigned_abs n ≤ 10 ^ 17 → unsigned_abs (worth aim n) ≤ 10 ^ 17
-unfolding worth
-worth_small aims.Find n small = small
-worth_small (aims.Sum true source part) n small = omega (arith, ints, small)
-worth_small (aims.Sum false source part) n small = small
+cost_small : (aim : Aim) (n : ℤ) → unsigned_abs n ≤ 10 ^ 17 → unsigned_abs (cost aim n) ≤ 10 ^ 17
+unfolding cost
+cost_small aims.Find n small = small
+cost_small (aims.Sum true source part) n small = omega (arith, ints, small)
+cost_small (aims.Sum false source part) n small = small
 
--- a worth whose sign is turned twice
-pub worth_back : (aim : Aim) (n : ℤ) → worth aim (worth aim n) ≡ n
-unfolding worth
-worth_back aims.Find n = refl
-worth_back (aims.Sum true source part) n = omega (arith, ints)
-worth_back (aims.Sum false source part) n = refl
+-- a cost whose sign is turned twice
+pub cost_back : (aim : Aim) (n : ℤ) → cost aim (cost aim n) ≡ n
+unfolding cost
+cost_back aims.Find n = refl
+cost_back (aims.Sum true source part) n = omega (arith, ints)
+cost_back (aims.Sum false source part) n = refl
 
--- what a world is worth that is not at fault
+-- the cost of a world that is not at fault
 pub judged_world_small : (query : Query) (tables : Tables) (world : World) (v : ℤ) → judged query tables world ≡ Ok (Some v) → unsigned_abs v ≤ 10 ^ 17
 unfolding judged
 judged_world_small query tables world v e =
-    let both = and_then-Ok (broken_from tables world 1 query.requires_) (λ broken. if is_none broken then and_then (score_asked tables world query.aim) (λ n. Ok (Some (worth query.aim n))) else Ok None) (Some v) e in
+    let both = and_then-Ok (broken_from tables world 1 query.requires_) (λ broken. if is_none broken then and_then (score_asked tables world query.aim) (λ n. Ok (Some (cost query.aim n))) else Ok None) (Some v) e in
     by_test (is_none both.0) both.2
   where
-    by_test : (b : Bool) → (if b then and_then (score_asked tables world query.aim) (λ n. Ok (Some (worth query.aim n))) else Ok None) ≡ Ok (Some v) → unsigned_abs v ≤ 10 ^ 17
+    by_test : (b : Bool) → (if b then and_then (score_asked tables world query.aim) (λ n. Ok (Some (cost query.aim n))) else Ok None) ≡ Ok (Some v) → unsigned_abs v ≤ 10 ^ 17
     by_test true h =
-        let score = and_then-Ok (score_asked tables world query.aim) (λ n. Ok (Some (worth query.aim n))) (Some v) h in
-        let same : worth query.aim score.0 ≡ v = let told = score.2 in cc in
-        subst (λ (k : ℤ). unsigned_abs k ≤ 10 ^ 17) same (worth_small query.aim score.0 (score_small query.aim tables world score.0 score.1))
+        let score = and_then-Ok (score_asked tables world query.aim) (λ n. Ok (Some (cost query.aim n))) (Some v) h in
+        let same : cost query.aim score.0 ≡ v = let told = score.2 in cc in
+        subst (λ (k : ℤ). unsigned_abs k ≤ 10 ^ 17) same (cost_small query.aim score.0 (score_small query.aim tables world score.0 score.1))
     by_test false h = cc
 
 pub judged_small : (query : Query) (tables : Tables) (columns : List WorldColumn) (point : List ℤ) (v : ℤ) → judged_at query tables columns point ≡ Ok (Some v) → unsigned_abs v ≤ 10 ^ 17
@@ -146,5 +146,5 @@ judged_small query tables columns point v = by_test (is_of_world query tables co
 small_fits : (n : ℤ) → unsigned_abs n ≤ 10 ^ 17 → SFits w64 n
 small_fits n small = omega (arith, ints, small)
 
-pub fits_score : (aim : Aim) (n : ℤ) → unsigned_abs n ≤ 10 ^ 17 → SFits w64 (worth aim n)
-fits_score aim n small = small_fits (worth aim n) (worth_small aim n small)
+pub fits_score : (aim : Aim) (n : ℤ) → unsigned_abs n ≤ 10 ^ 17 → SFits w64 (cost aim n)
+fits_score aim n small = small_fits (cost aim n) (cost_small aim n small)

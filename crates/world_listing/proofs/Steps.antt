@@ -16,10 +16,11 @@ use Rattle.branch_tree.proofs.Closing.{closes_kept, none_worked}
 use Rattle.world_def.specs.declared.fault.EvalFault.{EvalFault}
 use Rattle.world_points.specs.declared.fault.PointFault.{PointFault}
 use Rattle.world_points.specs.declared.fault.PointFault.TheVariants as fault
-use Rattle.world_points.specs.Points.{Gives}
+use Rattle.world_points.specs.Points.{GivesCost}
 use Rattle.world_listing.specs.declared.search.Search.{Search}
 use Rattle.world_listing.specs.declared.search.Found.{Found}
-use Rattle.world_listing.specs.Faults.{FaultsAs, fault_of, or_later}
+use Rattle.branch_tree.specs.Faults.{fault_of, or_later}
+use Rattle.world_listing.specs.Faults.{FaultsAs}
 use Rattle.world_listing.specs.Works.{Works, IsFromLeaf, IsJudgedTo, best_value, better_of, is_less}
 
 at_itself : (n : ℤ) → n ≤ℤ n
@@ -64,9 +65,9 @@ module _ (value : List ℤ → Option ℤ) where
   kept_by best point None other h = h
   kept_by None point (Some score) None h = tt
   kept_by None point (Some score) (Some other) h = absurd h
-  kept_by (Some found) point (Some score) other h = by_test (int_lt score found.worth) refl other h
+  kept_by (Some found) point (Some score) other h = by_test (int_lt score found.cost) refl other h
     where
-      by_test : (b : Bool) → int_lt score found.worth ≡ b → (other : Option ℤ) → NoBetter (Some found.worth) other → NoBetter (best_value (cond b (Some (record { worth = score; point = point })) (Some found))) other
+      by_test : (b : Bool) → int_lt score found.cost ≡ b → (other : Option ℤ) → NoBetter (Some found.cost) other → NoBetter (best_value (cond b (Some (record { cost = score; point = point })) (Some found))) other
       by_test true e None h = tt
       by_test true e (Some other) h = below_both _ _ _ e h
       by_test false e other h = h
@@ -74,9 +75,9 @@ module _ (value : List ℤ → Option ℤ) where
   closes_by : (best : Option Found) (point : List ℤ) (score : Option ℤ) → NoBetter (best_value (better_of best point score)) score
   closes_by best point None = tt
   closes_by None point (Some score) = at_itself score
-  closes_by (Some found) point (Some score) = by_test (int_lt score found.worth) refl
+  closes_by (Some found) point (Some score) = by_test (int_lt score found.cost) refl
     where
-      by_test : (b : Bool) → int_lt score found.worth ≡ b → NoBetter (best_value (cond b (Some (record { worth = score; point = point })) (Some found))) (Some score)
+      by_test : (b : Bool) → int_lt score found.cost ≡ b → NoBetter (best_value (cond b (Some (record { cost = score; point = point })) (Some found))) (Some score)
       by_test true e = at_itself score
       by_test false e = not_below _ _ e
 
@@ -84,11 +85,11 @@ module _ (value : List ℤ → Option ℤ) where
   from_point best sides None is = from_before best (closed leaf.Fixed) sides
   from_point best sides (Some score) is = by_test (is_less score (best_value best))
     where
-      by_test : (b : Bool) → IsFromLeaf value best (cond b (Some (record { worth = score; point = lows sides })) best) (closed leaf.Fixed) sides
+      by_test : (b : Bool) → IsFromLeaf value best (cond b (Some (record { cost = score; point = lows sides })) best) (closed leaf.Fixed) sides
       by_test true = inr (refl, is)
       by_test false = from_before best (closed leaf.Fixed) sides
 
-  module _ (judged : List ℤ → Result (Option ℤ) EvalFault) (agree : (point : List ℤ) (worth : Option ℤ) → judged point ≡ Ok worth → value point ≡ worth) where
+  module _ (judged : List ℤ → Result (Option ℤ) EvalFault) (agree : (point : List ℤ) (cost : Option ℤ) → judged point ≡ Ok cost → value point ≡ cost) where
     point_judged : (sides : List Bounds) (before now : Search) (score : Option ℤ) → AreFixed sides → 0 < before.left → now.nodes ≡ before.nodes ++ node.Closed leaf.Fixed ∷ [] → now.left ≡ before.left - 1 → judged (lows sides) ≡ Ok score → now.best ≡ better_of before.best (lows sides) score → Works value judged sides before now
     point_judged sides before now score fixed paid nodes left is best = record {
       tree = closed leaf.Fixed;
@@ -143,7 +144,7 @@ module _ (value : List ℤ → Option ℤ) where
 
 -- where the search comes upon a fault: at a box of one point, in the low half, and in the high one
 module _ (judged : List ℤ → Result (Option ℤ) EvalFault) where
-  pub fault_point : (left : ℕ) (sides : List Bounds) (told : PointFault) → AreFixed sides → 0 < left → Gives {A = Option ℤ} (judged (lows sides)) (Err told) → FaultsAs judged left sides told
+  pub fault_point : (left : ℕ) (sides : List Bounds) (told : PointFault) → AreFixed sides → 0 < left → GivesCost {A = Option ℤ} (judged (lows sides)) (Err told) → FaultsAs judged left sides told
   fault_point left sides (fault.Eval told) fixed paid is = record { tree = closed leaf.Fixed; listing = fixed; in_order = tt; within = omega (arith, paid); first = ap fault_of is }
   fault_point left sides fault.Memory fixed paid is = tt
 

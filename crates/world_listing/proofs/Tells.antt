@@ -1,14 +1,15 @@
 -- From a listing to the answer that tells it.
 use Rattle.std.proofs.Common.{◌≡◌, ℕ, suc, ◌<◌, ℤ, ◌≤ℤ◌, List, [], ◌∷◌, length, Bool, true, false, refl, sym, ◌∙◌, ap, subst, arith, inl, inr, if◌then◌else◌}
+use Rattle.std.proofs.lemmas.Bool.{and_parts}
 use Rattle.std.specs.Prelude.{Option, Some, None, Result, Ok, Err, position, IsSome, ◌&&◌}
 use Rattle.std.proofs.lemmas.Int.{ints}
 use Rattle.ip_rows.specs.declared.Bounds.{Bounds}
 use Rattle.branch_tree.specs.declared.node.Leaf.TheVariants as leaf
 use Rattle.branch_tree.specs.Tree.{Tree, closed, split, pending_of, pending_nodes}
 use Rattle.branch_tree.specs.Boxes.{low_box, high_box}
-use Rattle.branch_tree.specs.Listing.{InBox, AreFixed, Closes, HasLeaf, NoBetter, has_two, lows, is_done}
+use Rattle.branch_tree.specs.Listing.{InBox, AreFixed, Closes, HasLeaf, NoBetter, has_two, lows, is_done, open_columns}
 use Rattle.branch_tree.proofs.Trees.{pending_nodes-preorder}
-use Rattle.branch_tree.proofs.Covering.{covers, leaf_inside, leaf_value, both_first, both_second}
+use Rattle.branch_tree.proofs.Covering.{covers, leaf_inside, leaf_value}
 use Rattle.answer_text.specs.declared.answer.PartAnswer.{PartAnswer}
 use Rattle.answer_text.specs.declared.answer.Verdict.{Verdict}
 use Rattle.answer_text.specs.declared.answer.Verdict.TheVariants as verdict
@@ -17,18 +18,20 @@ use Rattle.tiql_query.specs.declared.world_column.WorldColumn.{WorldColumn}
 use Rattle.world_def.specs.Columns.{Tables}
 use Rattle.world_def.specs.Meaning.{IsBest, NoneMeets, score}
 use Rattle.world_def.specs.declared.fault.EvalFault.{EvalFault}
-use Rattle.world_points.specs.Points.{Gives, is_of_world, judged, judged_at, root, value_at, world_at, worth}
+use Rattle.world_points.specs.Points.{GivesCost, is_of_world, judged, judged_at, root, cost_at, world_at, cost}
 use Rattle.world_points.specs.declared.fault.PointFault.{PointFault}
 use Rattle.world_points.specs.declared.fault.PointFault.TheVariants as fault
-use Rattle.world_listing.specs.Asked.{IsAsked}
-use Rattle.world_listing.specs.Faults.{FaultsAs, NoFault, fault_of, or_later}
-use Rattle.world_listing.specs.Parts.{AreParts, ArePartsFor, IsListed, IsOf, IsReached, IsSound, IsWhole, ListsFor, Tells, TellsFault, open_columns}
+use Rattle.world_points.specs.Subject.{IsSubject}
+use Rattle.branch_tree.specs.Faults.{fault_of}
+use Rattle.branch_tree.proofs.Faults.{leaf_judged}
+use Rattle.world_listing.specs.Faults.{FaultsAs}
+use Rattle.world_listing.specs.Parts.{AreParts, ArePartsFor, IsListed, IsOf, IsReached, IsOneSound, IsWhole, ListsFor, IsVerdictFor, TellsFault}
 use Rattle.world_listing.specs.Works.{IsFromLeaf, best_value}
 use Rattle.world_listing.specs.declared.search.Found.{Found}
 use Rattle.world_listing.specs.declared.search.Listed.{Listed}
 use Rattle.world_points.proofs.Laws.{best_there, none_there}
 use Rattle.world_points.proofs.Told.{agree}
-use Rattle.world_listing.proofs.Sizes.{worth_back}
+use Rattle.world_listing.proofs.Sizes.{cost_back}
 
 none_open : (tree : Tree) → pending_of tree ≡ 0 → is_done tree ≡ true
 none_open (closed leaf.Pending) none = absurd (omega (arith, none))
@@ -40,7 +43,7 @@ done_none : (tree : Tree) → is_done tree ≡ true → pending_of tree ≡ 0
 done_none (closed leaf.Pending) done = absurd cc
 done_none (closed leaf.Fixed) done = refl
 done_none (split column at reason low high) done =
-    let one : pending_of low ≡ 0 = done_none low (both_first _ _ done) in let two : pending_of high ≡ 0 = done_none high (both_second _ _ done) in omega arith
+    let one : pending_of low ≡ 0 = done_none low (and_parts (is_done low) (is_done high) done).0 in let two : pending_of high ≡ 0 = done_none high (and_parts (is_done low) (is_done high) done).1 in omega arith
 
 some_open : (tree : Tree) → 0 < pending_of tree → is_done tree ≡ false
 some_open (closed leaf.Pending) some = refl
@@ -65,37 +68,14 @@ pub root_long : (columns : List WorldColumn) → length (root columns) ≡ lengt
 root_long [] = refl
 root_long (column ∷ columns) = ap suc (root_long columns)
 
--- the leaf that has a value was judged to it, where no leaf is at fault
-module _ (value : List ℤ → Option ℤ) (judged : List ℤ → Result (Option ℤ) EvalFault) (agree : (point : List ℤ) (worth : Option ℤ) → judged point ≡ Ok worth → value point ≡ worth) where
-  sound_judged : (point : List ℤ) (v : ℤ) → fault_of (judged point) ≡ None → value point ≡ Some v → judged point ≡ Ok (Some v)
-  sound_judged point v sound is = by_outcome (judged point) refl sound
-    where
-      by_outcome : (outcome : Result (Option ℤ) EvalFault) → judged point ≡ outcome → fault_of outcome ≡ None → judged point ≡ Ok (Some v)
-      by_outcome (Ok worth) e none = e ∙ ap (λ (o : Option ℤ). Ok o) (sym (agree point worth e) ∙ is)
-      by_outcome (Err told) e none = absurd cc
-
-  first_none : (one other : Option EvalFault) → or_later one other ≡ None → one ≡ None
-  first_none None other none = refl
-  first_none (Some told) other none = absurd cc
-
-  later_none : (one other : Option EvalFault) → or_later one other ≡ None → other ≡ None
-  later_none None other none = none
-  later_none (Some told) other none = absurd cc
-
-  leaf_judged : (point : List ℤ) (v : ℤ) (tree : Tree) (sides : List Bounds) → NoFault judged tree sides → HasLeaf value point v tree sides → judged point ≡ Ok (Some v)
-  leaf_judged point v (closed leaf.Pending) sides sound here = absurd here
-  leaf_judged point v (closed leaf.Fixed) sides sound here = sound_judged point v (ap (λ (ns : List ℤ). fault_of (judged ns)) here.0 ∙ sound) here.1
-  leaf_judged point v (split column at reason low high) sides sound (inl here) = leaf_judged point v low (low_box sides column at) (first_none _ _ sound) here
-  leaf_judged point v (split column at reason low high) sides sound (inr here) = leaf_judged point v high (high_box sides column at) (later_none _ _ sound) here
-
 module _ (query : Query) (tables : Tables) (columns : List WorldColumn) where
-  pub reached_of : (best : Option Found) (tree : Tree) → IsFromLeaf (value_at query tables columns) None best tree (root columns) → IsReached query tables columns tree (best_value best)
+  pub reached_of : (best : Option Found) (tree : Tree) → IsFromLeaf (cost_at query tables columns) None best tree (root columns) → IsReached query tables columns tree (best_value best)
   reached_of None tree from = tt
   reached_of (Some found) tree (inl none) = absurd cc
   reached_of (Some found) tree (inr leaf) = (found.point, leaf)
 
   abbrev pub listed_of : (budget : ℕ) (listed : Listed) (part : PartAnswer) → ListsFor query tables columns budget listed →
-      part.number ≡ 1 → part.columns ≡ open_columns 0 (root columns) → part.best ≡ best_value listed.best → part.tree ≡ listed.tree → IsListed query tables columns budget part
+      part.number ≡ 1 → part.columns ≡ open_columns (root columns) → part.best ≡ best_value listed.best → part.tree ≡ listed.tree → IsListed query tables columns budget part
   listed_of budget listed part lists number chosen best tree = record {
     number = number;
     columns = chosen;
@@ -103,7 +83,7 @@ module _ (query : Query) (tables : Tables) (columns : List WorldColumn) where
     nodes = tree ∙ lists.nodes;
     listing = lists.listing;
     in_order = lists.in_order;
-    closes = subst (λ (b : Option ℤ). Closes (value_at query tables columns) b lists.tree (root columns)) (sym best) lists.closes;
+    closes = subst (λ (b : Option ℤ). Closes (cost_at query tables columns) b lists.tree (root columns)) (sym best) lists.closes;
     reached = subst (λ (b : Option ℤ). IsReached query tables columns lists.tree b) (sym best) (reached_of listed.best lists.tree lists.found);
     within = lists.within;
     spent = lists.pending;
@@ -121,38 +101,38 @@ module _ (query : Query) (tables : Tables) (columns : List WorldColumn) where
 
   -- an optimal answer with a best world
   pub tells_optimal : (budget : ℕ) (found : Found) (parts : List PartAnswer) (told : Verdict) → IsOf query tables columns found parts told →
-      IsBest query tables (world_at query tables columns found.point) × (found.worth ≡ worth query.aim (score query.aim tables (world_at query tables columns found.point))) →
-      judged_at query tables columns found.point ≡ Ok (Some found.worth) →
-      AreParts query tables columns budget (Some found.worth) parts → Tells query tables columns budget told
+      IsBest query tables (world_at query tables columns found.point) × (found.cost ≡ cost query.aim (score query.aim tables (world_at query tables columns found.point))) →
+      judged_at query tables columns found.point ≡ Ok (Some found.cost) →
+      AreParts query tables columns budget (Some found.cost) parts → IsVerdictFor query tables columns budget told
   tells_optimal budget found parts (verdict.Optimal objective worlds listed) is best sound whole = record {
     world = world_at query tables columns found.point;
     best = best.0;
-    score = is.0 ∙ ap (worth query.aim) best.1 ∙ worth_back query.aim (score query.aim tables (world_at query tables columns found.point));
-    sound = world_judged found.point found.worth sound ∙ ap (λ (v : ℤ). Ok (Some v)) (sym (ap (worth query.aim) is.0 ∙ worth_back query.aim found.worth));
+    score = is.0 ∙ ap (cost query.aim) best.1 ∙ cost_back query.aim (score query.aim tables (world_at query tables columns found.point));
+    sound = world_judged found.point found.cost sound ∙ ap (λ (v : ℤ). Ok (Some v)) (sym (ap (cost query.aim) is.0 ∙ cost_back query.aim found.cost));
     sections = is.1;
-    listed = subst (λ (v : ℤ). AreParts query tables columns budget (Some v) listed) (sym (ap (worth query.aim) is.0 ∙ worth_back query.aim found.worth)) (subst (λ (l : List PartAnswer). AreParts query tables columns budget (Some found.worth) l) (sym is.2) whole);
+    listed = subst (λ (v : ℤ). AreParts query tables columns budget (Some v) listed) (sym (ap (cost query.aim) is.0 ∙ cost_back query.aim found.cost)) (subst (λ (l : List PartAnswer). AreParts query tables columns budget (Some found.cost) l) (sym is.2) whole);
   }
   tells_optimal budget found parts (verdict.FalseRow row) is best sound whole = absurd is
   tells_optimal budget found parts (verdict.NoWorld part) is best sound whole = absurd is
   tells_optimal budget found parts (verdict.Unfinished nodes listed) is best sound whole = absurd is
 
-  module _ (asked : IsAsked query tables columns) where
+  module _ (asked : IsSubject query tables columns) where
     module _ (fixed : AreFixed (root columns)) where
       -- the one possible world, which meets
       pub one_best : (point : List ℤ) (v : ℤ) → point ≡ lows (root columns) → judged_at query tables columns point ≡ Ok (Some v) →
-          IsBest query tables (world_at query tables columns point) × (v ≡ worth query.aim (score query.aim tables (world_at query tables columns point)))
+          IsBest query tables (world_at query tables columns point) × (v ≡ cost query.aim (score query.aim tables (world_at query tables columns point)))
       one_best point v lowest is =
-          let value : value_at query tables columns point ≡ Some v = agree query tables columns point (Some v) is in
+          let value : cost_at query tables columns point ≡ Some v = agree query tables columns point (Some v) is in
           best_there query tables columns asked.made asked.fit asked.given point v value
-          (covers (value_at query tables columns) (Some v) (closed leaf.Fixed) (root columns)
-          (fixed, subst (NoBetter (Some v)) (sym (ap (value_at query tables columns) (sym lowest) ∙ value)) (itself v)) refl)
+          (covers (cost_at query tables columns) (Some v) (closed leaf.Fixed) (root columns)
+          (fixed, subst (NoBetter (Some v)) (sym (ap (cost_at query tables columns) (sym lowest) ∙ value)) (itself v)) refl)
 
       -- or does not
       pub one_fails : (point : List ℤ) → point ≡ lows (root columns) → judged_at query tables columns point ≡ Ok None → NoneMeets query tables
       one_fails point lowest is =
           none_there query tables columns asked.made asked.fit asked.given
-          (covers (value_at query tables columns) None (closed leaf.Fixed) (root columns)
-          (fixed, subst (NoBetter None) (sym (ap (value_at query tables columns) (sym lowest) ∙ agree query tables columns point None is)) tt) refl)
+          (covers (cost_at query tables columns) None (closed leaf.Fixed) (root columns)
+          (fixed, subst (NoBetter None) (sym (ap (cost_at query tables columns) (sym lowest) ∙ agree query tables columns point None is)) tt) refl)
 
     module _ (budget : ℕ) (listed : Listed) (lists : ListsFor query tables columns budget listed) where
       pub lists_done : pending_nodes listed.tree ≡ 0 → is_done lists.tree ≡ true
@@ -162,32 +142,32 @@ module _ (query : Query) (tables : Tables) (columns : List WorldColumn) where
       lists_undone some = some_open lists.tree (subst (λ (n : ℕ). 0 < n) (ap pending_nodes lists.nodes ∙ pending_nodes-preorder lists.tree) some)
 
       -- what is found is the point of a leaf
-      found_leaf : (found : Found) → listed.best ≡ Some found → HasLeaf (value_at query tables columns) found.point found.worth lists.tree (root columns)
-      found_leaf found is = by_from (subst (λ (b : Option Found). IsFromLeaf (value_at query tables columns) None b lists.tree (root columns)) is lists.found)
+      found_leaf : (found : Found) → listed.best ≡ Some found → HasLeaf (cost_at query tables columns) found.point found.cost lists.tree (root columns)
+      found_leaf found is = by_from (subst (λ (b : Option Found). IsFromLeaf (cost_at query tables columns) None b lists.tree (root columns)) is lists.found)
         where
-          by_from : IsFromLeaf (value_at query tables columns) None (Some found) lists.tree (root columns) → HasLeaf (value_at query tables columns) found.point found.worth lists.tree (root columns)
+          by_from : IsFromLeaf (cost_at query tables columns) None (Some found) lists.tree (root columns) → HasLeaf (cost_at query tables columns) found.point found.cost lists.tree (root columns)
           by_from (inl none) = absurd cc
           by_from (inr leaf) = leaf
 
-      found_closes : (best : Option Found) → listed.best ≡ best → Closes (value_at query tables columns) (best_value best) lists.tree (root columns)
-      found_closes best is = subst (λ (b : Option Found). Closes (value_at query tables columns) (best_value b) lists.tree (root columns)) is lists.closes
+      found_closes : (best : Option Found) → listed.best ≡ best → Closes (cost_at query tables columns) (best_value best) lists.tree (root columns)
+      found_closes best is = subst (λ (b : Option Found). Closes (cost_at query tables columns) (best_value b) lists.tree (root columns)) is lists.closes
 
       pub found_long : (found : Found) → listed.best ≡ Some found → length found.point ≡ length columns
       found_long found is =
-          inside_long (root columns) found.point (leaf_inside (value_at query tables columns) (Some found.worth) found.point found.worth lists.tree (root columns) (found_closes (Some found) is) (found_leaf found is))
+          inside_long (root columns) found.point (leaf_inside (cost_at query tables columns) (Some found.cost) found.point found.cost lists.tree (root columns) (found_closes (Some found) is) (found_leaf found is))
           ∙ root_long columns
 
-      pub found_judged : (found : Found) → listed.best ≡ Some found → judged_at query tables columns found.point ≡ Ok (Some found.worth)
-      found_judged found is = leaf_judged (value_at query tables columns) (judged_at query tables columns) (agree query tables columns) found.point found.worth lists.tree (root columns) lists.sound (found_leaf found is)
+      pub found_judged : (found : Found) → listed.best ≡ Some found → judged_at query tables columns found.point ≡ Ok (Some found.cost)
+      found_judged found is = leaf_judged (cost_at query tables columns) (judged_at query tables columns) (agree query tables columns) found.point found.cost lists.tree (root columns) lists.sound (found_leaf found is)
 
       pub found_best : (found : Found) → listed.best ≡ Some found → pending_nodes listed.tree ≡ 0 →
-          IsBest query tables (world_at query tables columns found.point) × (found.worth ≡ worth query.aim (score query.aim tables (world_at query tables columns found.point)))
+          IsBest query tables (world_at query tables columns found.point) × (found.cost ≡ cost query.aim (score query.aim tables (world_at query tables columns found.point)))
       found_best found is none =
-          best_there query tables columns asked.made asked.fit asked.given found.point found.worth (leaf_value (value_at query tables columns) found.point found.worth lists.tree (root columns) (found_leaf found is))
-          (covers (value_at query tables columns) (Some found.worth) lists.tree (root columns) (found_closes (Some found) is) (lists_done none))
+          best_there query tables columns asked.made asked.fit asked.given found.point found.cost (leaf_value (cost_at query tables columns) found.point found.cost lists.tree (root columns) (found_leaf found is))
+          (covers (cost_at query tables columns) (Some found.cost) lists.tree (root columns) (found_closes (Some found) is) (lists_done none))
 
       pub found_none : listed.best ≡ None → pending_nodes listed.tree ≡ 0 → NoneMeets query tables
-      found_none is none = none_there query tables columns asked.made asked.fit asked.given (covers (value_at query tables columns) None lists.tree (root columns) (found_closes None is) (lists_done none))
+      found_none is none = none_there query tables columns asked.made asked.fit asked.given (covers (cost_at query tables columns) None lists.tree (root columns) (found_closes None is) (lists_done none))
 
   -- the one part, where a column has two values
   pub tells_parts : (budget : ℕ) (best : Option ℤ) (part : PartAnswer) (parts : List PartAnswer) →
@@ -199,11 +179,11 @@ module _ (query : Query) (tables : Tables) (columns : List WorldColumn) where
       by_column (Some column) several = (part, one, whole)
 
   -- no part, where none has
-  pub tells_none : (budget : ℕ) (best : Option ℤ) (parts : List PartAnswer) → position has_two (root columns) ≡ None → parts ≡ [] → IsSound query tables columns → AreParts query tables columns budget best parts
+  pub tells_none : (budget : ℕ) (best : Option ℤ) (parts : List PartAnswer) → position has_two (root columns) ≡ None → parts ≡ [] → IsOneSound query tables columns → AreParts query tables columns budget best parts
   tells_none budget best parts none empty sound = subst (λ (o : Option ℕ). ArePartsFor query tables columns budget best o parts) (sym none) (empty, sound)
 
   -- the fault of the one world
-  pub tells_one : (point : List ℤ) (told : PointFault) → position has_two (root columns) ≡ None → AreFixed (root columns) → point ≡ lows (root columns) → Gives {A = Option ℤ} (judged_at query tables columns point) (Err told) →
+  pub tells_one : (point : List ℤ) (told : PointFault) → position has_two (root columns) ≡ None → AreFixed (root columns) → point ≡ lows (root columns) → GivesCost {A = Option ℤ} (judged_at query tables columns point) (Err told) →
       (budget : ℕ) → TellsFault query tables columns budget told
   tells_one point (fault.Eval told) none fixed lowest is budget = record {
     tree = closed leaf.Fixed;
@@ -213,8 +193,3 @@ module _ (query : Query) (tables : Tables) (columns : List WorldColumn) where
     first = ap fault_of (ap (judged_at query tables columns) (sym lowest) ∙ is);
   }
   tells_one point fault.Memory none fixed lowest is budget = tt
-
-  -- the fault of a listing
-  pub tells_fault : (budget : ℕ) (told : PointFault) → FaultsAs (judged_at query tables columns) budget (root columns) told → TellsFault query tables columns budget told
-  tells_fault budget (fault.Eval told) faults = record { tree = faults.tree; listing = faults.listing; in_order = faults.in_order; within = λ several. faults.within; first = faults.first }
-  tells_fault budget fault.Memory faults = tt

@@ -16,12 +16,12 @@ use Rattle.tiql_query.specs.declared.query.Query.{Query}
 use Rattle.tiql_query.specs.declared.world_column.WorldColumn.{WorldColumn}
 use Rattle.tiql_query.specs.WellFormed.{IsHypoFit, with_set}
 use Rattle.answer_text.specs.declared.answer.WorldText.{WorldText}
-use Rattle.tables_csv.specs.QueryTables.{AreTables}
-use Rattle.tables_csv.specs.WholeTexts.{AreRowsOf, IsOfColumn}
+use Rattle.tiql_query.specs.Rows.{AreRowsOf, AreTables, IsOfColumn}
 use Rattle.world_def.specs.declared.world.WorldTable.{WorldTable}
 use Rattle.world_def.specs.Columns.{Rows, Tables, rows_of}
 use Rattle.world_def.specs.Worlds.{is_left_out, leading, of_hypo, of_row, put_row, row_with, rows_at, tables_at, with_number}
-use Rattle.world_listing.specs.Sections.{AreFit, AreSections, IsFit, IsSection}
+use Rattle.answer_text.specs.Written.{AreWritten, IsWritten}
+use Rattle.world_listing.specs.Sections.{AreFit, IsFit}
 
 -- a number set in a row leaves it as long
 number_long : (column : WorldColumn) (n : ℤ) (row : List Value) → length (with_number column n row) ≡ length row
@@ -114,8 +114,8 @@ fit_at (h ∷ hypos) [] i hypo table fit lt = absurd fit
 fit_at (h ∷ hypos) (t ∷ tables) zero hypo table fit lt = fit.0
 fit_at (h ∷ hypos) (t ∷ tables) (suc i) hypo table fit lt = fit_at hypos tables i hypo table fit.1 (omega (arith, lt))
 
-sections_push : (hypos : List QHypo) (tables : List WorldTable) (texts : List WorldText) (hypo : QHypo) (table : WorldTable) (text : WorldText) → AreSections hypos tables texts → IsSection hypo table text → AreSections (hypos ++ hypo ∷ []) (tables ++ table ∷ []) (texts ++ text ∷ [])
-unfolding AreSections
+sections_push : (hypos : List QHypo) (tables : List WorldTable) (texts : List WorldText) (hypo : QHypo) (table : WorldTable) (text : WorldText) → AreWritten hypos tables texts → IsWritten hypo table text → AreWritten (hypos ++ hypo ∷ []) (tables ++ table ∷ []) (texts ++ text ∷ [])
+unfolding AreWritten
 sections_push [] [] [] hypo table text all here = (here, tt)
 sections_push [] [] (x ∷ texts) hypo table text all here = absurd all
 sections_push [] (t ∷ tables) texts hypo table text all here = absurd all
@@ -123,21 +123,21 @@ sections_push (h ∷ hypos) [] texts hypo table text all here = absurd all
 sections_push (h ∷ hypos) (t ∷ tables) [] hypo table text all here = absurd all
 sections_push (h ∷ hypos) (t ∷ tables) (x ∷ texts) hypo table text all here = (all.0, sections_push hypos tables texts hypo table text all.1 here)
 
-pub sections_none : (hypos : List QHypo) (tables : List WorldTable) (texts : List WorldText) → texts ≡ [] → AreSections (take 0 hypos) (take 0 tables) texts
-unfolding AreSections
-sections_none hypos tables texts none = subst (AreSections [] []) (sym none) tt
+pub sections_none : (hypos : List QHypo) (tables : List WorldTable) (texts : List WorldText) → texts ≡ [] → AreWritten (take 0 hypos) (take 0 tables) texts
+unfolding AreWritten
+sections_none hypos tables texts none = subst (AreWritten [] []) (sym none) tt
 
 pub sections_more : (hypos : List QHypo) (tables : List WorldTable) (texts more : List WorldText) (i : ℕ) (hypo : QHypo) (table : WorldTable) (text : WorldText) → AreFit hypos tables → i < length hypos →
-    hypo ≡ get_or hypos i hypo → table ≡ get_or tables i table → IsSection hypo table text → more ≡ texts ++ text ∷ [] → AreSections (take i hypos) (take i tables) texts → AreSections (take (i + 1) hypos) (take (i + 1) tables) more
+    hypo ≡ get_or hypos i hypo → table ≡ get_or tables i table → IsWritten hypo table text → more ≡ texts ++ text ∷ [] → AreWritten (take i hypos) (take i tables) texts → AreWritten (take (i + 1) hypos) (take (i + 1) tables) more
 sections_more hypos tables texts more i hypo table text fit lt hypo_is table_is here pushed all =
     let first : take (i + 1) hypos ≡ take i hypos ++ hypo ∷ [] = take_more hypos i hypo lt ∙ ap (λ (h : QHypo). take i hypos ++ h ∷ []) (sym hypo_is) in
     let inside : i < length tables = let long = fit_long hypos tables fit in omega (arith, lt, long) in
     let second : take (i + 1) tables ≡ take i tables ++ table ∷ [] = take_more tables i table inside ∙ ap (λ (t : WorldTable). take i tables ++ t ∷ []) (sym table_is) in
     rw (first, second, pushed) (sections_push (take i hypos) (take i tables) texts hypo table text all here)
 
-pub sections_all : (hypos : List QHypo) (tables : List WorldTable) (texts : List WorldText) (i : ℕ) → AreFit hypos tables → length hypos ≤ i → AreSections (take i hypos) (take i tables) texts → AreSections hypos tables texts
+pub sections_all : (hypos : List QHypo) (tables : List WorldTable) (texts : List WorldText) (i : ℕ) → AreFit hypos tables → length hypos ≤ i → AreWritten (take i hypos) (take i tables) texts → AreWritten hypos tables texts
 sections_all hypos tables texts i fit past all =
     let long = fit_long hypos tables fit in
     let first : take i hypos ≡ hypos = take_all i hypos past in
     let second : take i tables ≡ tables = take_all i tables (omega (arith, past, long)) in
-    subst (λ (l : List QHypo). AreSections l tables texts) first (subst (λ (l : List WorldTable). AreSections (take i hypos) l texts) second all)
+    subst (λ (l : List QHypo). AreWritten l tables texts) first (subst (λ (l : List WorldTable). AreWritten (take i hypos) l texts) second all)

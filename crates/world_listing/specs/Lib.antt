@@ -1,6 +1,5 @@
-pub mod Asked
 pub mod Faults
+pub mod Judge
 pub mod Parts
 pub mod Sections
 pub mod Works
-pub mod Worked

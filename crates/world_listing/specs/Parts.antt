@@ -1,9 +1,10 @@
 -- The answers to a query: their one part, their world, and when each verdict is right.
-use Rattle.std.specs.Prelude.{◌≡◌, ◌≤◌, ◌+◌, ℕ, ℤ, List, [], ◌∷◌, Option, Some, None, IsSome, true, false, position, Ok, if◌then◌else◌}
-use Rattle.ip_rows.specs.declared.Bounds.{Bounds}
+use Rattle.std.specs.Prelude.{◌≡◌, ◌≤◌, ℕ, ℤ, List, [], ◌∷◌, Option, Some, None, IsSome, true, false, position, Ok}
 use Rattle.branch_tree.specs.declared.node.Leaf.TheVariants as leaf
 use Rattle.branch_tree.specs.Tree.{Tree, closed, preorder, worked_of}
-use Rattle.branch_tree.specs.Listing.{AreFixed, has_two, Closes, HasLeaf, IsListing, IsInOrder, is_done}
+use Rattle.branch_tree.specs.Faults.{NoFault}
+use Rattle.branch_tree.specs.Listing.{AreFixed, has_two, open_columns, Closes, HasLeaf, IsListing, IsInOrder, is_done}
+use Rattle.answer_text.specs.Written.{AreWritten}
 use Rattle.answer_text.specs.declared.answer.PartAnswer.{PartAnswer}
 use Rattle.answer_text.specs.declared.answer.WorldText.{WorldText}
 use Rattle.answer_text.specs.declared.answer.Answer.{Answer}
@@ -14,36 +15,30 @@ use Rattle.tiql_query.specs.declared.world_column.WorldColumn.{WorldColumn}
 use Rattle.world_def.specs.Columns.{Tables}
 use Rattle.world_def.specs.Meaning.{IsBest, NoneMeets, score}
 use Rattle.world_def.specs.declared.world.World.{World}
-use Rattle.world_points.specs.Points.{judged, judged_at, root, value_at, world_at, worth}
+use Rattle.world_points.specs.Points.{judged, judged_at, root, cost_at, world_at, cost}
 use Rattle.world_points.specs.declared.fault.PointFault.{PointFault}
 use Rattle.world_points.specs.declared.fault.PointFault.TheVariants as fault
-use Rattle.world_listing.specs.Faults.{FaultsIn, NoFault}
-use Rattle.world_listing.specs.Sections.{AreSections}
+use Rattle.world_listing.specs.Faults.{FaultsIn}
 use Rattle.world_listing.specs.Works.{Lists}
 use Rattle.world_listing.specs.declared.search.Found.{Found}
 use Rattle.world_listing.specs.declared.search.Listed.{Listed}
-
--- the numbers of the columns with two values, rising; this is the number of the first column
-abbrev pub open_columns : ℕ → List Bounds → List ℕ
-open_columns number [] = []
-open_columns number (side ∷ sides) = if has_two side then number ∷ open_columns (number + 1) sides else open_columns (number + 1) sides
 
 module _ (query : Query) (tables : Tables) (choices : List WorldColumn) where
   -- some leaf of the tree has this value, if there is one
   abbrev pub IsReached : Tree → Option ℤ → Type 0
   IsReached tree None = Unit {0}
-  IsReached tree (Some best) = (point : List ℤ) × HasLeaf (value_at query tables choices) point best tree (root choices)
+  IsReached tree (Some best) = (point : List ℤ) × HasLeaf (cost_at query tables choices) point best tree (root choices)
 
   -- the one part, of all columns with two values: its tree is that of a listing within the budget, every leaf that is not open
   -- closes against its best value, that value is the least that a leaf has, and no leaf's world is at fault
   pub record IsListed (budget : ℕ) (part : PartAnswer) : Type 0 where
     pub number : part.number ≡ 1
-    pub columns : part.columns ≡ open_columns 0 (root choices)
+    pub columns : part.columns ≡ open_columns (root choices)
     pub tree : Tree
     pub nodes : part.tree ≡ preorder tree
     pub listing : IsListing tree (root choices)
     pub in_order : IsInOrder tree
-    pub closes : Closes (value_at query tables choices) part.best tree (root choices)
+    pub closes : Closes (cost_at query tables choices) part.best tree (root choices)
     pub reached : IsReached tree part.best
     pub within : worked_of tree ≤ budget
     pub spent : is_done tree ≡ false → worked_of tree ≡ budget
@@ -56,14 +51,16 @@ module _ (query : Query) (tables : Tables) (choices : List WorldColumn) where
     pub found : part.best ≡ best
 
   -- the one world is not at fault, where no column has two values
-  abbrev pub IsSound : Type 0
-  IsSound = NoFault (judged_at query tables choices) (closed leaf.Fixed) (root choices)
+  abbrev pub IsOneSound : Type 0
+  IsOneSound = NoFault (judged_at query tables choices) (closed leaf.Fixed) (root choices)
 
-  -- the columns with two values are one part; there is none where no column has two values
+  -- the parts where this is the first column with two values: the columns with two values are one part, and there is none where no
+  -- column has two values
   abbrev pub ArePartsFor : ℕ → Option ℤ → Option ℕ → List PartAnswer → Type 0
-  ArePartsFor budget best None parts = (parts ≡ []) × IsSound
+  ArePartsFor budget best None parts = (parts ≡ []) × IsOneSound
   ArePartsFor budget best (Some column) parts = (part : PartAnswer) × (parts ≡ part ∷ []) × IsWhole budget best part
 
+  -- the parts of an answer with this best value
   abbrev pub AreParts : ℕ → Option ℤ → List PartAnswer → Type 0
   AreParts budget best parts = ArePartsFor budget best (position has_two (root choices)) parts
 
@@ -73,16 +70,16 @@ module _ (query : Query) (tables : Tables) (choices : List WorldColumn) where
     pub best : IsBest query tables world
     pub score : objective ≡ score query.aim tables world
     -- no value of this world is too large
-    pub sound : judged query tables world ≡ Ok (Some (worth query.aim objective))
-    pub sections : AreSections query.hypos world.tables worlds
-    pub listed : AreParts budget (Some (worth query.aim objective)) parts
+    pub sound : judged query tables world ≡ Ok (Some (cost query.aim objective))
+    pub sections : AreWritten query.hypos world.tables worlds
+    pub listed : AreParts budget (Some (cost query.aim objective)) parts
 
   -- an impossible answer without a part: no column has two values, and the one possible world does not meet
   pub record IsFalseRow (row : ℕ) : Type 0 where
     pub first : row ≡ 0
     pub fixed : AreFixed (root choices)
     pub none : NoneMeets query tables
-    pub sound : IsSound
+    pub sound : IsOneSound
 
   -- an impossible answer with the part that was listed: a column has two values, and no leaf has a world that meets
   pub record IsNoWorld (budget : ℕ) (part : PartAnswer) : Type 0 where
@@ -99,32 +96,33 @@ module _ (query : Query) (tables : Tables) (choices : List WorldColumn) where
     pub listed : IsListed budget part
     pub undone : is_done listed.tree ≡ false
 
-  abbrev pub Tells : ℕ → Verdict → Type 0
-  Tells budget (verdict.Optimal objective worlds parts) = IsOptimal budget objective worlds parts
-  Tells budget (verdict.FalseRow row) = IsFalseRow row
-  Tells budget (verdict.NoWorld part) = IsNoWorld budget part
-  Tells budget (verdict.Unfinished nodes parts) = IsUnfinished budget nodes parts
+  -- the verdict is right, for a listing within the budget
+  abbrev pub IsVerdictFor : ℕ → Verdict → Type 0
+  IsVerdictFor budget (verdict.Optimal objective worlds parts) = IsOptimal budget objective worlds parts
+  IsVerdictFor budget (verdict.FalseRow row) = IsFalseRow row
+  IsVerdictFor budget (verdict.NoWorld part) = IsNoWorld budget part
+  IsVerdictFor budget (verdict.Unfinished nodes parts) = IsUnfinished budget nodes parts
 
   -- what is answered to a query, with a budget of nodes; no program is made yet
   pub record Answers (budget : ℕ) (answer : Answer) : Type 0 where
     pub columns : answer.columns ≡ 0
     pub rows : answer.rows ≡ 0
     pub formulas : answer.formulas ≡ 0
-    pub verdict : Tells budget answer.verdict
+    pub verdict : IsVerdictFor budget answer.verdict
 
-  -- a fault that is told is the first that a listing comes upon, unless memory is wanting
+  -- a fault that is told is the first that a listing comes upon, unless memory runs out
   abbrev pub TellsFault : ℕ → PointFault → Type 0
   TellsFault budget (fault.Eval told) = FaultsIn query tables choices budget told
   TellsFault budget fault.Memory = Unit {0}
 
   -- the box of the columns is listed with the budget
   abbrev pub ListsFor : ℕ → Listed → Type 0
-  ListsFor budget listed = Lists (value_at query tables choices) (judged_at query tables choices) (root choices) budget listed
+  ListsFor budget listed = Lists (cost_at query tables choices) (judged_at query tables choices) (root choices) budget listed
 
   -- an optimal answer with the world of this point, and these parts
   abbrev pub IsOf : Found → List PartAnswer → Verdict → Type 0
   IsOf found parts (verdict.Optimal objective worlds listed) =
-      (objective ≡ worth query.aim found.worth) × AreSections query.hypos (world_at query tables choices found.point).tables worlds × (listed ≡ parts)
+      (objective ≡ cost query.aim found.cost) × AreWritten query.hypos (world_at query tables choices found.point).tables worlds × (listed ≡ parts)
   IsOf found parts (verdict.FalseRow row) = ⊥
   IsOf found parts (verdict.NoWorld part) = ⊥
   IsOf found parts (verdict.Unfinished nodes listed) = ⊥

@@ -1,21 +1,22 @@
 //! The answer to a query: the worlds are listed, and what was found is told with its tree.
 
 ghost use Rattle.std.specs.Prelude.{◌≡◌, ◌≤◌, ◌<◌, ◌^◌, ℕ, [], ◌∷◌, length, unsigned_abs, Ok, IfOk, IfErr, IsSome, position};
-ghost use Rattle.branch_tree.specs.Listing.{has_two};
-ghost use Rattle.tables_csv.specs.QueryTables.{AreTables};
+ghost use Rattle.branch_tree.specs.Listing.{has_two, open_columns};
+ghost use Rattle.tiql_query.specs.Rows.{AreTables};
 ghost use Rattle.tiql_query.specs.WellFormed.{IsWellFormed};
 ghost use Rattle.world_def.specs.Columns.{IsSmall, columns_of};
 ghost use Rattle.world_points.specs.Points as points;
-ghost use Rattle.world_listing.specs.Asked.{IsAsked, judged_by};
+ghost use Rattle.world_points.specs.Subject.{IsSubject};
+ghost use Rattle.world_listing.specs.Judge.{judged_by};
 ghost use Rattle.world_listing.specs.Works.{best_value};
 ghost use Rattle.world_listing.specs.Parts as told;
 
 use crate::halves::first_open;
-use crate::search::{Found, Judge, Listed, judged, list_points, lows_of};
+use crate::search::{Found, Judge, Listed, judged, list_points};
 use crate::sections::sections_of;
 use answer_text::{Answer, PartAnswer, Verdict};
 use base_kit::{List, Memory};
-use branch_tree::Branches;
+use branch_tree::{Branches, lowest_point};
 use ip_rows::Bounds;
 use std::alloc::Global;
 use tiql_query::{Aim, Query, WorldColumn};
@@ -73,10 +74,10 @@ fn verdict_of(
     root: &[Bounds],
     budget: u32,
 ) -> Result<Verdict, PointFault>
-    requires asked { IsAsked judge.now.query.now judge.now.tables.now judge.now.columns.now }
+    requires asked { IsSubject judge.now.query.now judge.now.tables.now judge.now.columns.now }
     requires root { root.now ≡ points.root judge.now.columns.now }
     requires budget { budget < 2 ^ 31 }
-    ensures answer { IfOk result (told.Tells judge.now.query.now judge.now.tables.now judge.now.columns.now budget) }
+    ensures answer { IfOk result (told.IsVerdictFor judge.now.query.now judge.now.tables.now judge.now.columns.now budget) }
     ensures fault { IfErr result (told.TellsFault judge.now.query.now judge.now.tables.now judge.now.columns.now budget) }
 {
     match first_open(root) {
@@ -92,11 +93,11 @@ fn list_worlds(
     root: &[Bounds],
     budget: u32,
 ) -> Result<Verdict, PointFault>
-    requires asked { IsAsked judge.now.query.now judge.now.tables.now judge.now.columns.now }
+    requires asked { IsSubject judge.now.query.now judge.now.tables.now judge.now.columns.now }
     requires root { root.now ≡ points.root judge.now.columns.now }
     requires budget { budget < 2 ^ 31 }
     requires several { IsSome (position has_two root.now) }
-    ensures answer { IfOk result (told.Tells judge.now.query.now judge.now.tables.now judge.now.columns.now budget) }
+    ensures answer { IfOk result (told.IsVerdictFor judge.now.query.now judge.now.tables.now judge.now.columns.now budget) }
     ensures fault { IfErr result (told.TellsFault judge.now.query.now judge.now.tables.now judge.now.columns.now budget) }
 {
     let listed = list_points(alloc, judge, root, budget)?;
@@ -112,15 +113,15 @@ fn told_of(
     columns: List<u32>,
     budget: u32,
 ) -> Result<Verdict, Memory>
-    requires asked { IsAsked judge.now.query.now judge.now.tables.now judge.now.columns.now }
+    requires asked { IsSubject judge.now.query.now judge.now.tables.now judge.now.columns.now }
     requires several { IsSome (position has_two (points.root judge.now.columns.now)) }
-    requires columns { columns ≡ told.open_columns 0 (points.root judge.now.columns.now) }
+    requires columns { columns ≡ open_columns (points.root judge.now.columns.now) }
     requires lists { told.ListsFor judge.now.query.now judge.now.tables.now judge.now.columns.now budget listed }
-    ensures { IfOk result (told.Tells judge.now.query.now judge.now.tables.now judge.now.columns.now budget) }
+    ensures { IfOk result (told.IsVerdictFor judge.now.query.now judge.now.tables.now judge.now.columns.now budget) }
 {
     let Listed { tree, best } = listed;
     let pending = tree.pending();
-    let part = part_of(columns, worth_of(&best), tree);
+    let part = part_of(columns, cost_of(&best), tree);
     if pending > 0 {
         return Ok(Verdict::Unfinished {
             nodes: budget,
@@ -135,16 +136,16 @@ fn told_of(
 
 /// Judges the one possible world, where no column has two values.
 fn judge_world(alloc: Global, judge: &Judge, root: &[Bounds]) -> Result<Verdict, PointFault>
-    requires asked { IsAsked judge.now.query.now judge.now.tables.now judge.now.columns.now }
+    requires asked { IsSubject judge.now.query.now judge.now.tables.now judge.now.columns.now }
     requires root { root.now ≡ points.root judge.now.columns.now }
     requires none { position has_two root.now ≡ None }
-    ensures answer { IfOk result (λ verdict. (budget : ℕ) → told.Tells judge.now.query.now judge.now.tables.now judge.now.columns.now budget verdict) }
+    ensures answer { IfOk result (λ verdict. (budget : ℕ) → told.IsVerdictFor judge.now.query.now judge.now.tables.now judge.now.columns.now budget verdict) }
     ensures fault { IfErr result (λ fault. (budget : ℕ) → told.TellsFault judge.now.query.now judge.now.tables.now judge.now.columns.now budget fault) }
 {
-    let point = lows_of(alloc, root)?;
+    let point = lowest_point(alloc, root)?;
     match judged(alloc, judge, &point)? {
-        Some(worth) => {
-            let found = Found { worth, point };
+        Some(cost) => {
+            let found = Found { cost, point };
             Ok(optimal(alloc, judge, found, List::new(alloc))?)
         }
         None => Ok(Verdict::FalseRow { row: 0 }),
@@ -158,9 +159,9 @@ fn optimal(
     found: Found,
     parts: List<PartAnswer>,
 ) -> Result<Verdict, Memory>
-    requires asked { IsAsked judge.now.query.now judge.now.tables.now judge.now.columns.now }
+    requires asked { IsSubject judge.now.query.now judge.now.tables.now judge.now.columns.now }
     requires long { length found.point ≡ length judge.now.columns.now }
-    requires value { judged_by judge.now found.point ≡ Ok (Some found.worth) }
+    requires value { judged_by judge.now found.point ≡ Ok (Some found.cost) }
     ensures { IfOk result (told.IsOf judge.now.query.now judge.now.tables.now judge.now.columns.now found parts) }
 {
     let query = judge.query;
@@ -173,36 +174,36 @@ fn optimal(
     )?;
     let worlds = sections_of(alloc, query.hypos.as_slice(), world.tables.as_slice())?;
     Ok(Verdict::Optimal {
-        objective: score_of(&query.aim, found.worth),
+        objective: score_of(&query.aim, found.cost),
         worlds,
         parts,
     })
 }
 
-/// The score of worlds that are worth so much.
-#[tactic(auto, unfolding(world_points::specs::Points::worth))]
-fn score_of(aim: &Aim, worth: i128) -> i64
-    requires { unsigned_abs worth ≤ 10 ^ 17 }
-    ensures { result ≡ points.worth aim.now worth }
+/// The score of worlds of this cost.
+#[tactic(auto, unfolding(world_points::specs::Points::cost))]
+fn score_of(aim: &Aim, cost: i128) -> i64
+    requires { unsigned_abs cost ≤ 10 ^ 17 }
+    ensures { result ≡ points.cost aim.now cost }
 {
     match aim {
-        Aim::Find => worth as i64,
+        Aim::Find => cost as i64,
         Aim::Sum { maximize, .. } => {
             if *maximize {
-                -(worth as i64)
+                -(cost as i64)
             } else {
-                worth as i64
+                cost as i64
             }
         }
     }
 }
 
-/// What the best is worth.
-fn worth_of(best: &Option<Found>) -> Option<i128>
+/// The cost of the best.
+fn cost_of(best: &Option<Found>) -> Option<i128>
     ensures { result ≡ best_value best.now }
 {
     match best {
-        Some(found) => Some(found.worth),
+        Some(found) => Some(found.cost),
         None => None,
     }
 }
@@ -217,9 +218,10 @@ fn one_of(alloc: Global, part: PartAnswer) -> Result<List<PartAnswer>, Memory>
 }
 
 /// The numbers of the columns with two values, rising.
+#[tactic(auto, unfolding(branch_tree::specs::Listing::open_from))]
 fn unfixed(alloc: Global, sides: &[Bounds]) -> Result<List<u32>, Memory>
     requires { length sides.now < 2 ^ 32 }
-    ensures { IfOk result (λ columns. columns ≡ told.open_columns 0 sides.now) }
+    ensures { IfOk result (λ columns. columns ≡ open_columns sides.now) }
 {
     let mut columns = List::new(alloc);
     for (column, side) in sides.iter().enumerate() {

@@ -1,9 +1,10 @@
 //! The column at which a box is split, and the two halves of its sides.
 
 ghost use Rattle.std.specs.Prelude.{◌≡◌, ◌<◌, ◌≤ℤ◌, ◌<ℤ◌, ◌+ℤ◌, pos, length, slice_set, position};
-ghost use Rattle.branch_tree.specs.Boxes.{low_side, high_side};
+ghost use Rattle.branch_tree.specs.Boxes as boxes;
 ghost use Rattle.branch_tree.specs.Listing.{has_two, IsMiddle};
 
+use branch_tree::{high_side, low_side};
 use ip_rows::Bounds;
 
 /// The first column that has two values.
@@ -29,18 +30,10 @@ pub(crate) fn middle(side: Bounds) -> i64
 pub(crate) fn halves(side: Bounds, at: i64) -> (Bounds, Bounds)
     requires from { side.lo ≤ℤ at }
     requires to { at <ℤ side.hi }
-    ensures low { result.0 ≡ low_side side at }
-    ensures high { result.1 ≡ high_side side at }
+    ensures low { result.0 ≡ boxes.low_side side at }
+    ensures high { result.1 ≡ boxes.high_side side at }
 {
-    let low = Bounds {
-        lo: side.lo,
-        hi: at,
-    };
-    let high = Bounds {
-        lo: at + 1,
-        hi: side.hi,
-    };
-    (low, high)
+    (low_side(side, at), high_side(side, at))
 }
 
 /// Writes the sides of one column.

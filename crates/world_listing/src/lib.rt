@@ -7,6 +7,3 @@ mod search;
 mod sections;
 
 pub use answer::answer_listed;
-
-#[cfg(test)]
-mod tests;

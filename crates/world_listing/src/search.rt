@@ -2,14 +2,15 @@
 
 ghost use Rattle.std.specs.Prelude.{◌≡◌, ◌<◌, ◌^◌, length, [], ◌∷◌, ◌++◌, ℤ, Option, Ok, OnOk, IfOk, IfErr};
 ghost use Rattle.branch_tree.specs.Listing.{AreSides, lows};
-ghost use Rattle.world_points.specs.Points.{Gives};
-ghost use Rattle.world_listing.specs.Asked.{IsAsked, value_by, judged_by};
+ghost use Rattle.world_points.specs.Points.{GivesCost};
+ghost use Rattle.world_points.specs.Subject.{IsSubject};
+ghost use Rattle.world_listing.specs.Judge.{value_by, judged_by};
 ghost use Rattle.world_listing.specs.Faults.{FaultsAs};
 ghost use Rattle.world_listing.specs.Works.{Works, Lists, IsJudgedTo, better_of, best_value, is_less};
 
 use crate::halves::{first_open, halves, middle, put};
 use base_kit::{List, Memory};
-use branch_tree::{Branches, Leaf, Node, Reason};
+use branch_tree::{Branches, Leaf, Node, Reason, lowest_point};
 use ip_rows::Bounds;
 use std::alloc::Global;
 use tiql_query::{Query, WorldColumn};
@@ -24,10 +25,10 @@ pub struct Judge<'a> {
     pub columns: &'a List<WorldColumn>,
 }
 
-/// The best point so far, with what it is worth.
+/// The best point so far, with its cost.
 #[derive(Debug, Drop)]
 pub struct Found {
-    pub worth: i128,
+    pub cost: i128,
     pub point: List<i64>,
 }
 
@@ -54,7 +55,7 @@ pub fn list_points(
     root: &[Bounds],
     budget: u32,
 ) -> Result<Listed, PointFault>
-    requires asked { IsAsked judge.now.query.now judge.now.tables.now judge.now.columns.now }
+    requires asked { IsSubject judge.now.query.now judge.now.tables.now judge.now.columns.now }
     requires sides { AreSides root.now }
     requires long { length root.now ≡ length judge.now.columns.now }
     requires budget { budget < 2 ^ 31 }
@@ -82,7 +83,7 @@ fn explore(
     sides: &mut [Bounds],
     search: &mut Search,
 ) -> Result<(), PointFault>
-    requires asked { IsAsked judge.now.query.now judge.now.tables.now judge.now.columns.now }
+    requires asked { IsSubject judge.now.query.now judge.now.tables.now judge.now.columns.now }
     requires sides { AreSides sides.old }
     requires long { length sides.old ≡ length judge.now.columns.now }
     ensures sides { OnOk result (sides.new ≡ sides.old) }
@@ -139,29 +140,29 @@ fn close(
     sides: &[Bounds],
     search: &mut Search,
 ) -> Result<(), PointFault>
-    requires asked { IsAsked judge.now.query.now judge.now.tables.now judge.now.columns.now }
+    requires asked { IsSubject judge.now.query.now judge.now.tables.now judge.now.columns.now }
     requires long { length sides.now ≡ length judge.now.columns.now }
     ensures nodes { OnOk result (search.new.nodes ≡ search.old.nodes ++ Node.Closed Leaf.Fixed ∷ []) }
     ensures left { search.new.left ≡ search.old.left }
     ensures best { OnOk result (IsJudgedTo (judged_by judge.now (lows sides.now)) search.old.best (lows sides.now) search.new.best) }
-    ensures fault { IfErr result (λ told. Gives {A = Option ℤ} (judged_by judge.now (lows sides.now)) (Err told)) }
+    ensures fault { IfErr result (λ told. GivesCost {A = Option ℤ} (judged_by judge.now (lows sides.now)) (Err told)) }
 {
     add(&mut search.nodes, Node::Closed(Leaf::Fixed))?;
-    let point = lows_of(alloc, sides)?;
-    let Some(worth) = judged(alloc, judge, &point)? else {
+    let point = lowest_point(alloc, sides)?;
+    let Some(cost) = judged(alloc, judge, &point)? else {
         return Ok(());
     };
-    if is_better(&search.best, worth) {
-        search.best = Some(Found { worth, point });
+    if is_better(&search.best, cost) {
+        search.best = Some(Found { cost, point });
     }
     Ok(())
 }
 
-/// What a point is worth, if it is that of a world that meets what is required.
+/// The cost of a point, if it is that of a world that meets what is required.
 pub fn judged(alloc: Global, judge: &Judge, point: &List<i64>) -> Result<Option<i128>, PointFault>
-    requires asked { IsAsked judge.now.query.now judge.now.tables.now judge.now.columns.now }
+    requires asked { IsSubject judge.now.query.now judge.now.tables.now judge.now.columns.now }
     requires long { length point.now ≡ length judge.now.columns.now }
-    ensures { Gives (judged_by judge.now point.now) result }
+    ensures { GivesCost (judged_by judge.now point.now) result }
 {
     judge_point(
         alloc,
@@ -173,22 +174,11 @@ pub fn judged(alloc: Global, judge: &Judge, point: &List<i64>) -> Result<Option<
 }
 
 /// Nothing is found yet, or the value is less.
-fn is_better(best: &Option<Found>, worth: i128) -> bool
-    ensures { result ≡ is_less worth (best_value best.now) }
+fn is_better(best: &Option<Found>, cost: i128) -> bool
+    ensures { result ≡ is_less cost (best_value best.now) }
 {
     match best {
-        Some(found) => worth < found.worth,
+        Some(found) => cost < found.cost,
         None => true,
     }
-}
-
-/// The least point of a box.
-pub fn lows_of(alloc: Global, sides: &[Bounds]) -> Result<List<i64>, Memory>
-    ensures { IfOk result (λ point. point ≡ lows sides.now) }
-{
-    let mut point = List::new(alloc);
-    for side in sides {
-        point.push(side.lo)?;
-    }
-    Ok(point)
 }

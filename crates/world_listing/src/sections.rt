@@ -1,7 +1,8 @@
 //! The sections of an answer: the text of each hypothetical table of a world.
 
 ghost use Rattle.std.specs.Prelude.{◌≡◌, ◌≤◌, length, IfOk};
-ghost use Rattle.world_listing.specs.Sections.{AreSections, AreFit, IsFit, IsSection};
+ghost use Rattle.answer_text.specs.Written.{AreWritten, IsWritten};
+ghost use Rattle.world_listing.specs.Sections.{AreFit, IsFit};
 
 use answer_text::WorldText;
 use base_kit::{Duplicate, List, Memory};
@@ -17,7 +18,7 @@ pub fn sections_of(
     tables: &[WorldTable],
 ) -> Result<List<WorldText>, Memory>
     requires { AreFit hypos.now tables.now }
-    ensures { IfOk result (AreSections hypos.now tables.now) }
+    ensures { IfOk result (AreWritten hypos.now tables.now) }
 {
     let mut sections = List::new(alloc);
     for (at, hypo) in hypos.iter().enumerate() {
@@ -29,7 +30,7 @@ pub fn sections_of(
 /// The section of a hypothetical table.
 fn section_of(alloc: Global, hypo: &QHypo, table: &WorldTable) -> Result<WorldText, Memory>
     requires { IsFit hypo.now table.now }
-    ensures { IfOk result (IsSection hypo.now table.now) }
+    ensures { IfOk result (IsWritten hypo.now table.now) }
 {
     let bytes = table_text(alloc, &hypo.columns, &table.rows)?;
     Ok(WorldText {

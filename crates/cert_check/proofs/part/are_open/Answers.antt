@@ -2,7 +2,7 @@ use Rattle.std.proofs.Common.{◌+◌, ◌≡◌, drop, get_or, sym, ◌∙◌, 
 use Rattle.std.specs.Str.{bytes_eq}
 use Rattle.std.proofs.lemmas.List.{get_or_default}
 use Rattle.branch_tree.proofs.Columns.{no_side}
-use Rattle.cert_check.specs.Parts.{open_from}
+use Rattle.branch_tree.specs.Listing.{open_from}
 use Rattle.cert_check.proofs.Parts.{at_within, fixed_here, other_here, same_here, none_left}
 use Rattle.cert_check.proofs.part.are_open.Goals as goal
 use Rattle.cert_check.proofs.part.are_open.Goals.{then-has_two+else-not-has_at, else-has_two}

@@ -1,6 +1,6 @@
 use Rattle.std.proofs.Common.{◌≡◌, ◌≤◌, length, drop}
 use Rattle.std.specs.Str.{bytes_eq}
-use Rattle.cert_check.specs.Parts.{open_from}
+use Rattle.branch_tree.specs.Listing.{open_from}
 use Rattle.cert_check.proofs.part.are_open.Given as goal
 
 abbrev pub invariant-loop-at : goal.invariant-loop-at

@@ -1,6 +1,6 @@
 use Rattle.std.proofs.Common.{◌≡◌, ◌++◌, drop}
-use Rattle.world_listing.specs.Parts.{open_columns}
+use Rattle.branch_tree.specs.Listing.{open_from}
 use Rattle.world_listing.proofs.answer.unfixed.Given as goal
 
 abbrev pub invariant-loop-column : goal.invariant-loop-column
-invariant-loop-column l = l.columns ++ open_columns l.column (drop l.column l.sides) ≡ open_columns 0 l.sides
+invariant-loop-column l = l.columns ++ open_from l.column (drop l.column l.sides) ≡ open_from 0 l.sides

@@ -8,7 +8,7 @@ use Rattle.branch_tree.specs.Boxes.{side_at, low_box, high_box, IsParted}
 use Rattle.branch_tree.specs.Listing.{AreSides, IsMiddle}
 use Rattle.branch_tree.proofs.Columns.{no_side, one_point, open_has_two, open_within, sides_low, sides_high}
 use Rattle.world_listing.specs.declared.search.Search.{Search}
-use Rattle.world_listing.specs.Asked.{judged_by, value_by}
+use Rattle.world_listing.specs.Judge.{judged_by, value_by}
 use Rattle.world_listing.specs.Faults.{FaultsAs}
 use Rattle.world_listing.specs.Works.{Works}
 use Rattle.world_points.proofs.Told.{agree}

@@ -1,6 +1,6 @@
 use Rattle.std.proofs.Common.{take}
-use Rattle.world_listing.specs.Sections.{AreSections}
+use Rattle.answer_text.specs.Written.{AreWritten}
 use Rattle.world_listing.proofs.sections.sections_of.Given as goal
 
 abbrev pub invariant-loop-at : goal.invariant-loop-at
-invariant-loop-at l = AreSections (take l.at l.hypos) (take l.at l.tables) l.sections
+invariant-loop-at l = AreWritten (take l.at l.hypos) (take l.at l.tables) l.sections

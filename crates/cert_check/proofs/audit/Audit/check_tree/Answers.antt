@@ -6,7 +6,7 @@ use Rattle.ip_rows.specs.declared.Bounds.{Bounds}
 use Rattle.branch_tree.specs.declared.node.Node.{Node}
 use Rattle.branch_tree.specs.declared.node.Node.TheVariants.{Split}
 use Rattle.branch_tree.specs.declared.node.Reason.TheVariants.{Plain}
-use Rattle.cert_check.specs.Checks.{Gives}
+use Rattle.cert_check.specs.Checks.{TellsOutcome}
 use Rattle.cert_check.specs.Reasons.{Outcome, in_tree}
 use Rattle.cert_check.specs.Walks.{in_nodes, boxes}
 use Rattle.cert_check.proofs.Lengths.{AreLong, long_behind, long_here, long_root}
@@ -29,7 +29,7 @@ returns-in_err-check_node c = λ whole is.
     let nodes = c.as_slice-node-items.result.now in
     let here = get_or nodes c.loop-at.at (Split 0 (pos 0) Plain) in
     let p = err_from_is_err_and c.from_residual.result c.from_residual.ensures.1 in
-    subst (λ (o : Outcome). Gives (in_tree c.args.self.now.subject.query.now c.args.self.now.subject.tables.now c.args.self.now.subject.columns.now c.args.self.now.best whole c.args.root c.args.self.now.part 1) o) (sym (p.1 ∙ ap Err p.2))
+    subst (λ (o : Outcome). TellsOutcome (in_tree c.args.self.now.subject.query.now c.args.self.now.subject.tables.now c.args.self.now.subject.columns.now c.args.self.now.best whole c.args.root c.args.self.now.part 1) o) (sym (p.1 ∙ ap Err p.2))
     (gives_here c.args.self.now.subject.query.now c.args.self.now.subject.tables.now c.args.self.now.subject.columns.now c.args.self.now.best c.args.self.now.part nodes c.loop-at.at here c.in-Some.sides.now (boxes c.loop-at.walk) _ c.loop-at-test.true
     (get_or_default nodes c.loop-at.at (Split 0 (pos 0) Plain) here c.loop-at-test.true) c.in-Some.ensures _ c.in_err-check_node.field-0.0 c.in_err-check_node.ensures
     (c.loop-at.invariant.left ∙ whole_tree c.args.self.now.subject.query.now c.args.self.now.subject.tables.now c.args.self.now.subject.columns.now c.args.self.now.best c.args.self.now.part whole nodes c.args.root (c.as_slice-node-items.ensures ∙ c.nodes.ensures.nodes ∙ is)))
