@@ -27,15 +27,17 @@ abbrev pub BuiltComes : List ℕ → Query → Result Query Refusal → Type 0
 BuiltComes name query (Ok same) = (same ≡ query) × (query.views ≡ [])
 BuiltComes name query (Err why) = (why ≡ refusal.NotBuilt name) × (0 < length query.views)
 
+-- what the text of this name asks
 abbrev pub AskComes : List ℕ → List ℕ → Result Query Refusal → Type 0
 AskComes name bytes = Then (TreeComes bytes) (λ tree. Then (QueryComes tree) (BuiltComes name))
 
--- the query fits together, and has as few hypothetical tables and requirements as 32 bits number
+-- the query has as few hypothetical tables and requirements as 32 bits number
 pub record IsNumbered (query : Query) : Type 0 where
-  pub fit : IsWellFormed query
   pub hypos : length query.hypos < 4294967295
   pub requires_ : length query.requires_ < 4294967295
 
+-- a query that fits together, and of which all is built
 pub record IsAsked (query : Query) : Type 0 where
+  pub fit : IsWellFormed query
   pub numbered : IsNumbered query
   pub built : query.views ≡ []

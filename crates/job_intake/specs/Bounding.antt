@@ -13,6 +13,7 @@ use Rattle.job_intake.specs.declared.refusal.Refusal.TheVariants as refusal
 unfoldable pub hypo_name : Query → ℕ → List ℕ
 hypo_name query number = unwrap_or (option_map (λ hypo. hypo.name) (slice_get query.hypos number)) []
 
+-- how a fault of the bounds is refused
 abbrev pub refused_bounds : Query → BoundsFault → Refusal
 refused_bounds query (faults.EmptyBounds hypo row) = refusal.EmptyBounds (hypo_name query hypo) row
 refused_bounds query (faults.Wide hypo number) = refusal.TooWide (hypo_name query hypo) number
@@ -39,5 +40,6 @@ limits columns =
     else if nat_lt 1024 (unfixed columns) then Err (refusal.PartTooLarge (unfixed columns))
     else Ok tt
 
+-- nothing, or the first limit that is passed
 abbrev pub LimitComes : List WorldColumn → Result Unit Refusal → Type 0
 LimitComes columns outcome = outcome ≡ limits columns

@@ -1,6 +1,6 @@
 -- what every job that is taken meets
 use Rattle.std.specs.Prelude.{◌≡◌, ◌≤◌, ◌<◌, All, length, Ok}
-use Rattle.tables_csv.specs.QueryTables.{AreTables}
+use Rattle.tiql_query.specs.Rows.{AreTables}
 use Rattle.world_def.specs.Columns.{columns_of}
 use Rattle.job_intake.specs.declared.job.Job.{Job}
 use Rattle.job_intake.specs.Asking.{IsAsked}

@@ -13,10 +13,10 @@ abbrev pub Then : {A B : Type 0} → (Result A Refusal → Type 0) → (A → Re
 Then {A} first next outcome = ((a : A) × first (Ok a) × next a outcome) ⊎ ((why : Refusal) × first (Err why) × (outcome ≡ Err why))
 
 -- what is given is what the step comes to, unless memory is wanting
-abbrev pub Gives : {A : Type 0} → (Result A Refusal → Type 0) → Result A Stop → Type 0
-Gives claim (Ok a) = claim (Ok a)
-Gives claim (Err (stop.Refused why)) = claim (Err why)
-Gives claim (Err stop.Memory) = Unit {0}
+abbrev pub Follows : {A : Type 0} → (Result A Refusal → Type 0) → Result A Stop → Type 0
+Follows claim (Ok a) = claim (Ok a)
+Follows claim (Err (stop.Refused why)) = claim (Err why)
+Follows claim (Err stop.Memory) = Unit {0}
 
 -- no fetch failed, unless that is told or memory was wanting
 abbrev pub FailsAs : {A : Type 0} → ℕ → ℕ → Result A Stop → Type 0

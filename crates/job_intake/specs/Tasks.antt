@@ -2,7 +2,6 @@
 use Rattle.std.specs.Prelude.{◌≡◌, ◌≤◌, ℕ, List, Result, Ok, Err}
 use Rattle.answer_text.specs.Answers.{AnswerText, IsAnswer, IsStop, line_of}
 use Rattle.answer_text.specs.declared.answer.Answer.{Answer}
-use Rattle.job_intake.specs.declared.fetch.TheConstants.{MOST_ANSWER_BYTES}
 use Rattle.job_intake.specs.declared.job.Task.{Task}
 use Rattle.job_intake.specs.declared.job.Task.TheVariants as task
 use Rattle.job_intake.specs.declared.refusal.Refusal.{Refusal}
@@ -26,9 +25,10 @@ AnswerComes bytes (Err why) = (line : ℕ) × (why ≡ refusal.Unreadable line) 
 abbrev pub SolveComes : ℕ → Result Task Refusal → Type 0
 SolveComes nodes outcome = outcome ≡ Ok (task.Solve nodes)
 
+-- the task that the words name; an answer's file has at most 512 MiB
 abbrev pub TaskComes : Visit → Command → Result Task Refusal → Type 0
 TaskComes v (solve nodes) = SolveComes nodes
-TaskComes v (check name) = Then (FileComes v MOST_ANSWER_BYTES name) AnswerComes
+TaskComes v (check name) = Then (FileComes v 536870912 name) AnswerComes
 
 -- the nodes are at most as many as may be worked, and an answer is one that some text spells
 abbrev pub IsTaken : Task → Type 0

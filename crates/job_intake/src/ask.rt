@@ -1,9 +1,10 @@
-//! What a text asks.
+//! The query of a text.
 
 ghost use Rattle.std.specs.Prelude.{◌-◌, ◌^◌, ◌<◌, length, IfOk};
 ghost use Rattle.tiql_tree.specs.Spelled.{Spelled};
-ghost use Rattle.job_intake.specs.Asking.{AskComes, IsAsked, IsNumbered, QueryComes, TreeComes};
-ghost use Rattle.job_intake.specs.Steps.{Gives};
+ghost use Rattle.job_intake.specs.Asking.{AskComes, IsAsked, QueryComes, TreeComes};
+ghost use Rattle.tiql_query.specs.WellFormed.{IsWellFormed};
+ghost use Rattle.job_intake.specs.Steps.{Follows};
 
 use crate::refusal::{Refusal, Stop};
 use base_kit::{List, Memory};
@@ -13,13 +14,10 @@ use tiql_query::Query;
 use tiql_read::{ReadFault, read_query};
 use tiql_tree::Tree;
 
-/// The most hypothetical tables and requirements: as many as 32 bits number.
-const MOST_DECLARED: usize = 4_294_967_294;
-
 /// The query of a text of fewer than 2^32 - 1 bytes, which was fetched under this name.
 pub fn ask(alloc: Global, name: &str, bytes: &[u8]) -> Result<Query, Stop>
     requires { length bytes.now < 2 ^ 32 - 1 }
-    ensures comes { Gives (AskComes name.now bytes.now) result }
+    ensures comes { Follows (AskComes name.now bytes.now) result }
     ensures asked { IfOk result IsAsked }
 {
     let tree = read_tree(alloc, bytes)?;
@@ -34,7 +32,7 @@ pub fn ask(alloc: Global, name: &str, bytes: &[u8]) -> Result<Query, Stop>
 /// The tree of a text.
 fn read_tree(alloc: Global, bytes: &[u8]) -> Result<Tree, Stop>
     requires { length bytes.now < 2 ^ 32 - 1 }
-    ensures { Gives (TreeComes bytes.now) result }
+    ensures { Follows (TreeComes bytes.now) result }
 {
     match read_query(alloc, bytes) {
         Ok(tree) => Ok(tree),
@@ -43,19 +41,15 @@ fn read_tree(alloc: Global, bytes: &[u8]) -> Result<Tree, Stop>
     }
 }
 
-/// The query that the tree of a text says. More hypothetical tables or requirements than 32 bits number find no memory.
+/// The query of the tree of a text.
 fn check_tree(alloc: Global, bytes: &[u8], tree: &Tree) -> Result<Query, Stop>
     requires { Spelled bytes.now tree.now }
-    ensures comes { Gives (QueryComes tree.now) result }
-    ensures fit { IfOk result IsNumbered }
+    ensures comes { Follows (QueryComes tree.now) result }
+    ensures fit { IfOk result IsWellFormed }
 {
-    let query = match check(alloc, tree) {
-        Ok(query) => query,
-        Err(SoundFault::Memory) => return Err(Stop::Memory),
-        Err(fault) => return Err(Stop::Refused(Refusal::Unsound(fault))),
-    };
-    if query.hypos.len() > MOST_DECLARED || query.requires_.len() > MOST_DECLARED {
-        return Err(Stop::Memory);
+    match check(alloc, tree) {
+        Ok(query) => Ok(query),
+        Err(SoundFault::Memory) => Err(Stop::Memory),
+        Err(fault) => Err(Stop::Refused(Refusal::Unsound(fault))),
     }
-    Ok(query)
 }

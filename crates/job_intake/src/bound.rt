@@ -3,7 +3,7 @@
 ghost use Rattle.std.specs.Prelude.{◌≡◌, ◌<◌, IfOk};
 ghost use Rattle.world_def.specs.Columns.{IsSmall};
 ghost use Rattle.job_intake.specs.Bounding as spec;
-ghost use Rattle.job_intake.specs.Steps.{Gives};
+ghost use Rattle.job_intake.specs.Steps.{Follows};
 
 use crate::refusal::{Refusal, Stop};
 use base_kit::{List, Memory};
@@ -14,7 +14,7 @@ use world_def::{BoundsFault, Tables, world_columns};
 /// The world columns, or the first fault of the bounds.
 pub fn bounds(alloc: Global, query: &Query, tables: &Tables) -> Result<List<WorldColumn>, Stop>
     requires { IsSmall query.now tables.now }
-    ensures { Gives (spec.BoundComes query.now tables.now) result }
+    ensures { Follows (spec.BoundComes query.now tables.now) result }
 {
     match world_columns(alloc, query, tables) {
         Ok(columns) => Ok(columns),

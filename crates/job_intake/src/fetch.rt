@@ -1,8 +1,9 @@
-//! A file from the shelf, whole, or why there is none.
+//! Fetches a whole file, or tells why it is refused.
 
 ghost use Rattle.std.specs.Prelude.{◌≡◌, ◌+◌, ◌^◌, ◌<◌, length, OnOk};
+ghost use Rattle.outside_io.specs.Shelves.{later};
 ghost use Rattle.job_intake.specs.Visits.{visit};
-ghost use Rattle.job_intake.specs.Steps.{Gives, FailsAs, IsRefusedFile, KeepsCounts};
+ghost use Rattle.job_intake.specs.Steps.{Follows, FailsAs, IsRefusedFile, KeepsCounts};
 ghost use Rattle.job_intake.specs.Files.{FileComes};
 
 use crate::refusal::{FileFault, Refusal, Stop};
@@ -16,7 +17,7 @@ pub const MOST_FILE_BYTES: usize = 16_777_216;
 /// The most bytes of an answer's file: 512 MiB.
 pub const MOST_ANSWER_BYTES: usize = 536_870_912;
 
-/// Fetches a file with one byte more than the `most` that it may have, so that its length tells whether it is too long.
+/// Fetches a file of at most `most` bytes. One byte more is asked for, so that the length tells whether it is too long.
 pub fn fetch_file<S: Shelf>(
     alloc: Global,
     shelf: &mut S,
@@ -25,9 +26,10 @@ pub fn fetch_file<S: Shelf>(
 ) -> Result<List<u8>, Stop>
     requires { most + 1 < 2 ^ 64 }
     ensures held { S.held shelf.new ≡ S.held shelf.old }
-    ensures counts { OnOk result (KeepsCounts (visit S.held S.misses S.faults shelf.old shelf.new)) }
+    ensures moved { S.fails shelf.new ≡ later (S.fails shelf.old) }
+    ensures counts { OnOk result (KeepsCounts (visit S.held S.fails S.misses S.faults shelf.old shelf.new)) }
     ensures failed { FailsAs (S.faults shelf.old) (S.faults shelf.new) result }
-    ensures comes { Gives (FileComes (visit S.held S.misses S.faults shelf.old shelf.new) most name.now) result }
+    ensures comes { Follows (FileComes (visit S.held S.fails S.misses S.faults shelf.old shelf.new) most name.now) result }
 {
     match shelf.fetch(alloc, name, most + 1) {
         Ok(bytes) => {

@@ -1,13 +1,11 @@
 //! A job: a query, its tables and their world columns, and what is to be done with them.
 
-ghost use Rattle.std.specs.Prelude.{◌≡◌, ◌<◌, length, map, string_bytes, All, IfOk, Ok};
-ghost use Rattle.tables_csv.specs.QueryTables.{AreTables};
-ghost use Rattle.world_def.specs.Columns.{columns_of};
+ghost use Rattle.std.specs.Prelude.{◌≡◌, map, string_bytes, IfOk};
 ghost use Rattle.job_intake.specs.Asking.{IsAsked};
 ghost use Rattle.job_intake.specs.Forms as forms;
 ghost use Rattle.job_intake.specs.Jobs as spec;
 ghost use Rattle.job_intake.specs.Ready.{IsReady};
-ghost use Rattle.job_intake.specs.Steps.{Gives, FailsAs};
+ghost use Rattle.job_intake.specs.Steps.{Follows, FailsAs};
 ghost use Rattle.job_intake.specs.Visits.{visit};
 
 use crate::ask::ask;
@@ -34,28 +32,27 @@ pub enum Task {
     Check { answer: Answer },
 }
 
-/// All that a run works on.
+/// What a command works on.
 #[derive(Debug, Drop)]
 pub struct Job {
     /// The query: it is sound and has no view.
     pub query: Query,
     /// The rows of its tables.
     pub tables: Tables,
-    /// The choices that tell its worlds apart.
+    /// Its world columns: the choices that tell its worlds apart.
     pub columns: List<WorldColumn>,
     /// What is to be done.
     pub task: Task,
 }
 
-/// The job that the words ask for: `solve QUERY DIR`, `solve QUERY DIR NODES` or `check QUERY DIR ANSWER`. The files are fetched
-/// from the shelf in the order of refusals, each once: the query, its tables as they are declared, and the answer
-/// (docs/ANSWERS.md, "Refusals").
+/// The job of a command: `solve QUERY DIR`, `solve QUERY DIR NODES` or `check QUERY DIR ANSWER`. Each file is fetched once,
+/// in the order of docs/ANSWERS.md, "Refusals": the query, its tables as they are declared, and the answer.
 ///
-/// `Refused` tells the first refusal; `Memory` may come at any step.
+/// `Refused` is the first refusal in that order; `Memory` may come at any step.
 pub fn take_job<S: Shelf>(alloc: Global, words: &[String], shelf: &mut S) -> Result<Job, Stop>
     ensures held { S.held shelf.new ≡ S.held shelf.old }
     ensures failed { FailsAs (S.faults shelf.old) (S.faults shelf.new) result }
-    ensures comes { Gives (spec.Comes (map (λ word. string_bytes word) words.now) (visit S.held S.misses S.faults shelf.old shelf.new)) result }
+    ensures comes { Follows (spec.Comes (map (λ word. string_bytes word) words.now) (visit S.held S.fails S.misses S.faults shelf.old shelf.new)) result }
     ensures ready { IfOk result IsReady }
 {
     match form_of(words) {
@@ -64,13 +61,11 @@ pub fn take_job<S: Shelf>(alloc: Global, words: &[String], shelf: &mut S) -> Res
     }
 }
 
-/// The job of a form, from the query's file on.
+/// The job, from the query's file on.
 fn open<S: Shelf>(alloc: Global, shelf: &mut S, form: Form<'_>) -> Result<Job, Stop>
-    requires { forms.IsBudgeted form }
     ensures held { S.held shelf.new ≡ S.held shelf.old }
     ensures failed { FailsAs (S.faults shelf.old) (S.faults shelf.new) result }
-    ensures comes { Gives (spec.Opened (visit S.held S.misses S.faults shelf.old shelf.new) (forms.form form.entry)) result }
-    ensures ready { IfOk result IsReady }
+    ensures comes { Follows (spec.Opened (visit S.held S.fails S.misses S.faults shelf.old shelf.new) (forms.form form.entry)) result }
 {
     let Form {
         query: name,
@@ -82,7 +77,7 @@ fn open<S: Shelf>(alloc: Global, shelf: &mut S, form: Form<'_>) -> Result<Job, S
     load(alloc, shelf, folder, command, query)
 }
 
-/// The job of a query, from the tables' files on.
+/// The job, from the tables' files on.
 fn load<S: Shelf>(
     alloc: Global,
     shelf: &mut S,
@@ -90,19 +85,17 @@ fn load<S: Shelf>(
     command: Command<'_>,
     query: Query,
 ) -> Result<Job, Stop>
-    requires asked { IsAsked query }
-    requires budget { forms.IsBudgetedCommand command }
+    requires { IsAsked query }
     ensures held { S.held shelf.new ≡ S.held shelf.old }
     ensures failed { FailsAs (S.faults shelf.old) (S.faults shelf.new) result }
-    ensures comes { Gives (spec.Loaded (visit S.held S.misses S.faults shelf.old shelf.new) folder.now (forms.command command.entry) query) result }
-    ensures ready { IfOk result IsReady }
+    ensures comes { Follows (spec.Loaded (visit S.held S.fails S.misses S.faults shelf.old shelf.new) folder.now (forms.command command.entry) query) result }
 {
     let tables = load_tables(alloc, shelf, folder, query.tables.as_slice())?;
     let columns = bounds(alloc, &query, &tables)?;
     finish(alloc, shelf, command, query, tables, columns)
 }
 
-/// The job over these columns, once its task is known.
+/// The job, from its task on.
 fn finish<S: Shelf>(
     alloc: Global,
     shelf: &mut S,
@@ -111,15 +104,9 @@ fn finish<S: Shelf>(
     tables: Tables,
     columns: List<WorldColumn>,
 ) -> Result<Job, Stop>
-    requires asked { IsAsked query }
-    requires tables { AreTables query tables }
-    requires wide { All (λ table. 0 < length table.columns) query.tables }
-    requires columns { columns_of query tables ≡ Ok columns }
-    requires budget { forms.IsBudgetedCommand command }
     ensures held { S.held shelf.new ≡ S.held shelf.old }
     ensures failed { FailsAs (S.faults shelf.old) (S.faults shelf.new) result }
-    ensures comes { Gives (spec.Finished (visit S.held S.misses S.faults shelf.old shelf.new) (forms.command command.entry) query tables columns) result }
-    ensures ready { IfOk result IsReady }
+    ensures comes { Follows (spec.Finished (visit S.held S.fails S.misses S.faults shelf.old shelf.new) (forms.command command.entry) query tables columns) result }
 {
     let task = task_of(alloc, shelf, command)?;
     limit(columns.as_slice())?;

@@ -1,4 +1,4 @@
-//! The intake: what the words ask is fetched and read, up to the job that is then done.
+//! Reads what a command names: its query, tables and answer, up to the job that is then done.
 #![tactic(auto)]
 
 mod ask;

@@ -3,7 +3,7 @@
 ghost use Rattle.std.specs.Prelude.{◌≡◌, ◌≤◌, length, pos};
 ghost use Rattle.world_points.specs.Points as points;
 ghost use Rattle.job_intake.specs.Bounding as spec;
-ghost use Rattle.job_intake.specs.Steps.{Gives};
+ghost use Rattle.job_intake.specs.Steps.{Follows};
 
 use crate::refusal::{Refusal, Stop};
 use tiql_query::WorldColumn;
@@ -14,10 +14,10 @@ const MOST_COLUMNS: usize = 100_000;
 /// The most columns with more than one value.
 const MOST_UNFIXED: usize = 1_024;
 
-/// Nothing, unless there are too many columns.
+/// Refuses too many columns.
 #[tactic(auto, unfolding(crate::specs::Bounding::limits))]
 pub fn limit(columns: &[WorldColumn]) -> Result<(), Stop>
-    ensures { Gives (spec.LimitComes columns.now) result }
+    ensures { Follows (spec.LimitComes columns.now) result }
 {
     if columns.len() > MOST_COLUMNS {
         let count = columns.len() as u64;

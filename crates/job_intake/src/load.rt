@@ -1,9 +1,10 @@
 //! The tables of a query, each from its file.
 
-ghost use Rattle.std.specs.Prelude.{◌≡◌, ◌<◌, All, OnOk, IfOk, length, string_bytes};
+ghost use Rattle.std.specs.Prelude.{◌≡◌, OnOk, IfOk, length, string_bytes};
 ghost use Rattle.job_intake.specs.Loading.{LoadComes, ReadComes, TableComes};
-ghost use Rattle.job_intake.specs.Steps.{Gives, FailsAs, KeepsCounts};
-ghost use Rattle.job_intake.specs.Visits.{visit};
+ghost use Rattle.job_intake.specs.Steps.{Follows, FailsAs, KeepsCounts};
+ghost use Rattle.outside_io.specs.Shelves.{later};
+ghost use Rattle.job_intake.specs.Visits.{later_by, visit};
 ghost use Rattle.job_intake.specs.Words as words;
 
 use crate::fetch::{MOST_FILE_BYTES, fetch_file};
@@ -23,10 +24,10 @@ pub fn load_tables<S: Shelf>(
     tables: &[QTable],
 ) -> Result<Tables, Stop>
     ensures held { S.held shelf.new ≡ S.held shelf.old }
-    ensures counts { OnOk result (KeepsCounts (visit S.held S.misses S.faults shelf.old shelf.new)) }
+    ensures moved { OnOk result (S.fails shelf.new ≡ later_by (length tables.now) (S.fails shelf.old)) }
+    ensures counts { OnOk result (KeepsCounts (visit S.held S.fails S.misses S.faults shelf.old shelf.new)) }
     ensures failed { FailsAs (S.faults shelf.old) (S.faults shelf.new) result }
-    ensures comes { Gives (LoadComes (visit S.held S.misses S.faults shelf.old shelf.new) folder.now tables.now) result }
-    ensures wide { IfOk result (λ _. All (λ table. 0 < length table.columns) tables.now) }
+    ensures comes { Follows (LoadComes (visit S.held S.fails S.misses S.faults shelf.old shelf.new) folder.now tables.now) result }
 {
     let mut made = List::new(alloc);
     for table in tables {
@@ -43,15 +44,11 @@ fn load_table<S: Shelf>(
     table: &QTable,
 ) -> Result<List<Row>, Stop>
     ensures held { S.held shelf.new ≡ S.held shelf.old }
-    ensures counts { OnOk result (KeepsCounts (visit S.held S.misses S.faults shelf.old shelf.new)) }
+    ensures moved { OnOk result (S.fails shelf.new ≡ later (S.fails shelf.old)) }
+    ensures counts { OnOk result (KeepsCounts (visit S.held S.fails S.misses S.faults shelf.old shelf.new)) }
     ensures failed { FailsAs (S.faults shelf.old) (S.faults shelf.new) result }
-    ensures comes { Gives (TableComes (visit S.held S.misses S.faults shelf.old shelf.new) folder.now table.now) result }
-    ensures wide { IfOk result (λ _. 0 < length table.now.columns) }
+    ensures comes { Follows (TableComes (visit S.held S.fails S.misses S.faults shelf.old shelf.new) folder.now table.now) result }
 {
-    // The grammar spells no table without columns, and its file could not be told from an empty one.
-    if table.columns.is_empty() {
-        return Err(Stop::Memory);
-    }
     let path = table_path(alloc, folder, table.name.as_str())?;
     let bytes = fetch_file(alloc, shelf, path.as_str(), MOST_FILE_BYTES)?;
     read_rows(alloc, bytes.as_slice(), table)
@@ -66,7 +63,7 @@ fn table_path(alloc: Global, folder: &str, table: &str) -> Result<String, Memory
 
 /// The rows of a table that the bytes are.
 fn read_rows(alloc: Global, bytes: &[u8], table: &QTable) -> Result<List<Row>, Stop>
-    ensures { Gives (ReadComes table.now bytes.now) result }
+    ensures { Follows (ReadComes table.now bytes.now) result }
 {
     match read_table(alloc, bytes, table) {
         Ok(rows) => Ok(rows),

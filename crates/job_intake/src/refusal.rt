@@ -5,10 +5,10 @@ use std::alloc::AllocError;
 use tables_csv::TableFault;
 use tiql_check::SoundFault;
 
-/// Why a file is not to be had.
+/// Why a file is refused.
 #[derive(Clone, Copy, Debug, PartialEq, Eq)]
 pub enum FileFault {
-    /// Nothing stands under its name.
+    /// There is no file of this name.
     Absent,
     /// It could not be read.
     ReadFailed,
@@ -16,41 +16,41 @@ pub enum FileFault {
     TooLong,
 }
 
-/// The first reason for which there is nothing to do, in the order in which they are tried (docs/ANSWERS.md, "Refusals").
+/// The first reason why a command is refused, in the order of docs/ANSWERS.md, "Refusals".
 #[derive(Debug, Drop)]
 pub enum Refusal {
     /// The words are none of the forms.
     Words,
-    /// A file is not to be had; the name under which it was fetched.
+    /// A file is refused; `name` is the name under which it was fetched.
     File { name: List<u8>, why: FileFault },
-    /// The query's text stops being one at this place.
+    /// The query's text is no query from this place on.
     Syntax(Place),
     /// The query breaks this rule first.
     Unsound(SoundFault),
-    /// The query is of a form that is not built yet; the name under which it was fetched.
+    /// The query declares a view, which is not built yet; `name` is the name under which it was fetched.
     NotBuilt { name: List<u8> },
-    /// The file of this table is none, and this is the first fault in it.
+    /// The file of this table is not a valid table: its first fault.
     Table { table: List<u8>, why: TableFault },
-    /// In this row, from 1, of the hypothetical table's own table a lower bound is above the upper one.
+    /// A lower bound is above the upper one in this row, counted from 1, of the hypothetical table's own table.
     EmptyBounds { hypo: List<u8>, row: u32 },
-    /// Over this hypothetical table's own table a value of WHERE or of a bound passes 10^17 in size, or a bound passes 10^15.
+    /// A value of the hypothetical table's WHERE or bounds is above 10^17 in size, or a bound is above 10^15.
     TooWide { hypo: List<u8>, number: i128 },
     /// There would be more than 20,000,000 world columns.
     TooManyWorldColumns,
-    /// So many world columns are more than 100,000.
+    /// There are this many world columns, more than 100,000.
     TooManyColumns { count: u64 },
-    /// So many columns with more than one value are more than 1,024.
+    /// This many columns have more than one value, more than 1,024.
     PartTooLarge { columns: u64 },
-    /// The bytes of the answer are no answer's text from this line on.
+    /// The answer's text is no answer from this line on, counted from 1.
     Unreadable { line: u32 },
 }
 
-/// Why there is no job: a refusal, or want of memory.
+/// Why there is no job.
 #[derive(Debug, Drop)]
 pub enum Stop {
-    /// It is refused.
+    /// The command is refused.
     Refused(Refusal),
-    /// There was not enough memory.
+    /// Out of memory.
     Memory,
 }
 

@@ -1,8 +1,8 @@
 //! What is to be done with a query and its tables.
 
-ghost use Rattle.std.specs.Prelude.{◌≡◌, ◌+◌, ◌^◌, ◌<◌, length, OnOk, IfOk};
+ghost use Rattle.std.specs.Prelude.{◌≡◌, ◌+◌, ◌^◌, ◌<◌, length, OnOk};
 ghost use Rattle.job_intake.specs.Forms as forms;
-ghost use Rattle.job_intake.specs.Steps.{Gives, FailsAs, KeepsCounts};
+ghost use Rattle.job_intake.specs.Steps.{Follows, FailsAs, KeepsCounts};
 ghost use Rattle.job_intake.specs.Tasks as spec;
 ghost use Rattle.job_intake.specs.Visits.{visit};
 
@@ -14,14 +14,12 @@ use answer_text::{AnswerFault, read_answer};
 use outside_io::Shelf;
 use std::alloc::Global;
 
-/// The task that the words name: to solve, or to check the answer that is fetched and read.
+/// The task of a command: to solve, or to check the answer, which is fetched and read.
 pub fn task_of<S: Shelf>(alloc: Global, shelf: &mut S, command: Command<'_>) -> Result<Task, Stop>
-    requires { forms.IsBudgetedCommand command }
     ensures held { S.held shelf.new ≡ S.held shelf.old }
-    ensures counts { OnOk result (KeepsCounts (visit S.held S.misses S.faults shelf.old shelf.new)) }
+    ensures counts { OnOk result (KeepsCounts (visit S.held S.fails S.misses S.faults shelf.old shelf.new)) }
     ensures failed { FailsAs (S.faults shelf.old) (S.faults shelf.new) result }
-    ensures comes { Gives (spec.TaskComes (visit S.held S.misses S.faults shelf.old shelf.new) (forms.command command.entry)) result }
-    ensures taken { IfOk result spec.IsTaken }
+    ensures comes { Follows (spec.TaskComes (visit S.held S.fails S.misses S.faults shelf.old shelf.new) (forms.command command.entry)) result }
 {
     match command {
         Command::Solve { nodes } => Ok(Task::Solve { nodes }),
@@ -35,8 +33,7 @@ pub fn task_of<S: Shelf>(alloc: Global, shelf: &mut S, command: Command<'_>) -> 
 /// The task of checking the answer whose text the bytes are.
 fn read_task(alloc: Global, bytes: &[u8]) -> Result<Task, Stop>
     requires { length bytes.now + 1 < 2 ^ 32 }
-    ensures comes { Gives (spec.AnswerComes bytes.now) result }
-    ensures taken { IfOk result spec.IsTaken }
+    ensures { Follows (spec.AnswerComes bytes.now) result }
 {
     match read_answer(alloc, bytes) {
         Ok(answer) => Ok(Task::Check { answer }),

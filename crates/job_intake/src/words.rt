@@ -33,8 +33,7 @@ pub struct Form<'a> {
 /// What is asked, where the words are `solve QUERY DIR`, `solve QUERY DIR NODES` or
 /// `check QUERY DIR ANSWER` (docs/ANSWERS.md).
 pub fn form_of(words: &[String]) -> Option<Form<'_>>
-    ensures form { option_map views.form result ≡ spec.form_of (map (λ word. string_bytes word) words.now) }
-    ensures nodes { IfSome result views.IsBudgeted }
+    ensures { option_map views.form result ≡ spec.form_of (map (λ word. string_bytes word) words.now) }
 {
     match words {
         [word, query, folder] => solve_form(
@@ -55,8 +54,7 @@ pub fn form_of(words: &[String]) -> Option<Form<'_>>
 
 /// The form of checking, where the first word is `check`, or else that of solving.
 fn four_words<'a>(word: &str, query: &'a str, folder: &'a str, last: &'a str) -> Option<Form<'a>>
-    ensures form { option_map views.form result ≡ spec.four_words word.now query.now folder.now last.now }
-    ensures nodes { IfSome result views.IsBudgeted }
+    ensures { option_map views.form result ≡ spec.four_words word.now query.now folder.now last.now }
 {
     if word == "check" {
         let command = Command::Check { answer: last };
@@ -77,9 +75,7 @@ fn solve_form<'a>(
     folder: &'a str,
     nodes: Option<u32>,
 ) -> Option<Form<'a>>
-    requires { IfSome nodes (λ count. count ≤ 100000) }
-    ensures form { option_map views.form result ≡ spec.solve_form word.now query.now folder.now nodes }
-    ensures nodes { IfSome result views.IsBudgeted }
+    ensures { option_map views.form result ≡ spec.solve_form word.now query.now folder.now nodes }
 {
     let nodes = nodes?;
     if word == "solve" {
@@ -96,8 +92,7 @@ fn solve_form<'a>(
 
 /// The number of nodes that a word names.
 fn nodes_of(word: &[u8]) -> Option<u32>
-    ensures value { result ≡ spec.nodes_of word.now }
-    ensures limit { IfSome result (λ count. count ≤ 100000) }
+    ensures { result ≡ spec.nodes_of word.now }
 {
     if word.len() > 6 || !begins_plain(word) {
         return None;

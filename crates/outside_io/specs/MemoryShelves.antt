@@ -1,8 +1,8 @@
 -- a shelf in memory
-use Rattle.std.specs.Prelude.{◌≡◌, ℕ, ◌+◌, ◌-◌, ◌^◌, min, Bool, ◌==◌, List, Some}
+use Rattle.std.specs.Prelude.{ℕ, ◌+◌, ◌-◌, ◌^◌, min, Bool, ◌==◌, List, Some}
 use Rattle.std.specs.List.{list_any}
 use Rattle.outside_io.specs.HeldFiles.{held_under}
-use Rattle.outside_io.specs.Shelves.{Contents}
+use Rattle.outside_io.specs.Shelves.{Contents, Failures}
 use Rattle.outside_io.specs.declared.held.Held.{Held}
 use Rattle.outside_io.specs.declared.memory_shelf.MemoryShelf.{MemoryShelf}
 
@@ -14,11 +14,10 @@ contents_of shelf = Some (held_under shelf.held)
 abbrev pub fresh_shelf : List Held → List ℕ → MemoryShelf
 fresh_shelf held failing = record { held = held; failing = failing; calls = 0; misses = 0; faults = 0 }
 
--- whether the next call is to fail
-abbrev pub is_due : MemoryShelf → Bool
-is_due shelf = list_any (λ call. call == shelf.calls) shelf.failing
+-- whether the fetch so many calls from now is to fail
+abbrev pub is_due : MemoryShelf → ℕ → Bool
+is_due shelf calls = list_any (λ call. call == min (shelf.calls + calls) (2 ^ 64 - 1)) shelf.failing
 
--- one call more was made, and the same calls are to fail
-pub record Called (old new : MemoryShelf) : Type 0 where
-  pub calls : new.calls ≡ min (old.calls + 1) (2 ^ 64 - 1)
-  pub failing : new.failing ≡ old.failing
+-- which of the coming fetches fail
+abbrev pub failures_of : MemoryShelf → Failures
+failures_of shelf = Some (is_due shelf)

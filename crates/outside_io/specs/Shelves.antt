@@ -1,5 +1,5 @@
 -- what a fetch gives, and what it does to the counts of a shelf
-use Rattle.std.specs.Prelude.{◌≡◌, ℕ, ◌≤◌, List, Option, Some, Result, Ok, Err, take}
+use Rattle.std.specs.Prelude.{◌≡◌, ℕ, ◌+◌, ◌≤◌, Bool, true, false, List, Option, Some, Result, Ok, Err, IfSome, option_map, take}
 use Rattle.outside_io.specs.Counts.{Rose}
 use Rattle.outside_io.specs.declared.shelf.ShelfFault.{ShelfFault}
 use Rattle.outside_io.specs.declared.shelf.ShelfFault.TheVariants.{Absent, Failed, Memory}
@@ -11,6 +11,25 @@ Contents = Option (List ℕ → Option (List ℕ))
 -- the bytes are the first `max` of those under the name
 abbrev pub Fetches : List ℕ → List ℕ → ℕ → (List ℕ → Option (List ℕ)) → Type 0
 Fetches bytes name max held = (whole : List ℕ) × (held name ≡ Some whole) × (bytes ≡ take max whole)
+
+-- whether the fetch so many calls from now fails, where that is told
+abbrev pub Failures : Type 0
+Failures = Option (ℕ → Bool)
+
+-- the same once the next fetch is done
+abbrev pub later : Failures → Failures
+later fails = option_map (λ due call. due (call + 1)) fails
+
+-- the next fetch fails, or does not, as this says, where that is told
+abbrev pub NextFails : Failures → Bool → Type 0
+NextFails fails failed = IfSome fails (λ due. due 0 ≡ failed)
+
+-- a fetch failed exactly where it was to fail; that may be left open where memory was wanting
+abbrev pub FailsAsTold : {T : Type 0} → Failures → Result T ShelfFault → Type 0
+FailsAsTold fails (Ok x) = NextFails fails false
+FailsAsTold fails (Err Absent) = NextFails fails false
+FailsAsTold fails (Err Failed) = NextFails fails true
+FailsAsTold fails (Err Memory) = Unit {0}
 
 -- misses rise where the name was absent, and stay as they are at every other answer
 abbrev pub MissesAfter : {T : Type 0} → ℕ → ℕ → Result T ShelfFault → Type 0

@@ -13,8 +13,8 @@ use std::rt::Files;
 /// How much room is made where a file tells no size.
 const LEAST_ROOM: usize = 65_536;
 
-/// The files of the system, by their paths. What they hold is not told. An open that finds no file is a miss; every
-/// other error is a fault, so a directory is a file that was not read.
+/// The files of the system, by their paths. What they hold, and which reads will fail, is not told. An open that finds no
+/// file is a miss; every other error is a fault, so a directory is a file that could not be read.
 ///
 /// A fetch asks for the file's size, makes room for it at once, at most `max` bytes, and reads straight into that room,
 /// so no byte is moved again. Where a file holds more than its size says, as a pipe does, the room doubles.
@@ -42,6 +42,8 @@ impl<'a, R: Files> FileShelf<'a, R> {
 impl<'a, R: Files> Shelf for FileShelf<'a, R> {
     ghost held = { λ _. None };
 
+    ghost fails = { λ _. None };
+
     ghost misses = { λ shelf. shelf.misses };
 
     ghost faults = { λ shelf. shelf.faults };
@@ -62,6 +64,7 @@ impl<'a, R: Files> Shelf for FileShelf<'a, R> {
     }
 }
 
+/// The first `max` bytes of a file.
 fn read_file<R: Files>(
     alloc: Global,
     files: &R,

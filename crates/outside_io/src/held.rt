@@ -7,7 +7,7 @@ use crate::ShelfFault;
 use base_kit::{List, Txt};
 use std::alloc::Global;
 
-/// A name and the bytes that stand under it.
+/// A file in memory: its name and its bytes.
 #[derive(Debug, Drop)]
 pub struct Held {
     pub name: Txt,
@@ -15,7 +15,7 @@ pub struct Held {
 }
 
 impl Held {
-    /// Whether no two of the pairs have one name.
+    /// Whether no two of the files have the same name.
     pub fn are_distinct(held: &[Held]) -> bool
         ensures { result ≡ spec.are_distinct held.now }
     {
@@ -28,13 +28,14 @@ impl Held {
     }
 }
 
+/// Whether one of the files has this name.
 fn is_among(held: &[Held], name: &str) -> bool
     ensures { result ≡ list_any (λ one. bytes_eq one.name name.now) held.now }
 {
     held.iter().any(|one| one.name.as_str() == name)
 }
 
-/// What stands under the name.
+/// The bytes of the first file of this name.
 pub(crate) fn find<'a>(held: &'a [Held], name: &str) -> Option<&'a [u8]>
     ensures some { IfSome result (λ bytes. spec.held_under held.now name.now ≡ Some bytes.now) }
     ensures none { IfNone result (spec.held_under held.now name.now ≡ None) }

@@ -1,4 +1,4 @@
-//! The outside: where files come from and where text goes, in memory and in the system.
+//! Input and output: where files come from and where text goes, in memory and in the system.
 #![tactic(auto)]
 
 mod append;
@@ -22,6 +22,3 @@ pub use sink::{Sink, SinkFault};
 pub use std_sink::StdSink;
 pub use sure_shelf::SureShelf;
 pub use sure_sink::SureSink;
-
-#[cfg(test)]
-mod tests;

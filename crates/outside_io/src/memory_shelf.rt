@@ -1,9 +1,9 @@
-//! A shelf in memory, some calls of which fail.
+//! A shelf in memory whose fetches fail at chosen calls.
 ghost use Rattle.std.specs.Prelude.{◌≡◌, ◌↔◌, ◌≤◌, ◌==◌, length, None, IfOk, IfSome, IsErrOf, IsTrue};
 ghost use Rattle.std.specs.List.{list_any};
 ghost use Rattle.outside_io.specs.HeldFiles.{are_distinct};
-ghost use Rattle.outside_io.specs.MemoryShelves.{Called, contents_of, fresh_shelf, is_due};
-ghost use Rattle.outside_io.specs.Shelves.{Counts, Fetches};
+ghost use Rattle.outside_io.specs.MemoryShelves.{contents_of, failures_of, fresh_shelf, is_due};
+ghost use Rattle.outside_io.specs.Shelves.{Counts, FailsAsTold, Fetches, later};
 ghost use Rattle.outside_io.specs.declared.shelf.ShelfFault.TheVariants.{Absent};
 
 use crate::count::raised;
@@ -12,7 +12,7 @@ use crate::{Held, Shelf, ShelfFault};
 use base_kit::List;
 use std::alloc::Global;
 
-/// Files in memory, and the numbers of the fetches, counted from 0, that are to fail.
+/// Files in memory, and the numbers of the fetches, counted from 0, that fail.
 #[derive(Debug, Drop)]
 pub struct MemoryShelf {
     held: List<Held>,
@@ -23,7 +23,7 @@ pub struct MemoryShelf {
 }
 
 impl MemoryShelf {
-    /// A shelf of these files, of which these fetches are to fail. It was not called yet, and its counts are 0.
+    /// A shelf of these files, before its first fetch. The fetches with the numbers in `failing` will fail.
     pub fn new(held: List<Held>, failing: List<u32>) -> MemoryShelf
         requires { IsTrue (are_distinct held) }
         ensures { result ≡ fresh_shelf held failing }
@@ -41,20 +41,24 @@ impl MemoryShelf {
 impl Shelf for MemoryShelf {
     ghost held = { contents_of };
 
+    ghost fails = { failures_of };
+
     ghost misses = { λ shelf. shelf.misses };
 
     ghost faults = { λ shelf. shelf.faults };
 
-    /// Fails at the calls of the list, and at no other.
+    /// Fails at the fetches of the list, and at no other.
     fn fetch(&mut self, alloc: Global, name: &str, max: usize) -> Result<Vec<u8>, ShelfFault>
         ensures held { contents_of self.new ≡ contents_of self.old }
         ensures bound { IfOk result (λ bytes. length bytes.items ≤ max) }
         ensures found { IfOk result (λ bytes. IfSome (contents_of self.old) (Fetches bytes.items name.now max)) }
         ensures absent { IsErrOf result Absent → IfSome (contents_of self.old) (λ map. map name.now ≡ None) }
+        ensures failed { FailsAsTold (failures_of self.old) result }
+        ensures later { failures_of self.new ≡ later (failures_of self.old) }
         ensures counts { Counts self.old.misses self.new.misses self.old.faults self.new.faults result }
 
-        ensures called { Called self.old self.new }
-        ensures due { IsErrOf result ShelfFault.Failed ↔ IsTrue (is_due self.old) }
+        // Also where memory is wanting.
+        ensures due { IsErrOf result ShelfFault.Failed ↔ IsTrue (is_due self.old 0) }
     {
         let due = is_among(self.failing.as_slice(), self.calls);
         self.calls = raised(self.calls);
@@ -72,6 +76,7 @@ impl Shelf for MemoryShelf {
     }
 }
 
+/// Whether the call is one of these.
 fn is_among(calls: &[u32], call: u64) -> bool
     ensures { result ≡ list_any (λ one. one == call) calls.now }
 {

@@ -1,4 +1,4 @@
-//! A sink in memory, some calls of which fail.
+//! A sink in memory whose writes fail at chosen calls.
 ghost use Rattle.std.specs.Prelude.{◌≡◌, ◌<◌, ◌+◌, ◌-◌, ◌^◌, min, length, Some, None, IfSome, IfNone, OnOk, IsErrOf, IsTrue};
 ghost use Rattle.outside_io.specs.MemorySinks as spec;
 ghost use Rattle.outside_io.specs.Sinks.{Counts, Puts};
@@ -9,15 +9,14 @@ use crate::{Sink, SinkFault};
 use base_kit::List;
 use std::alloc::Global;
 
-/// A call of `put`, counted from 0, that appends the first `taken` bytes of its piece, or all of a shorter one, and
-/// fails.
+/// A call of `put`, counted from 0, that fails: it appends the first `taken` bytes of its piece, or all of a shorter one.
 #[derive(Clone, Copy, Debug, PartialEq, Eq)]
 pub struct FailPut {
     pub call: u32,
     pub taken: u32,
 }
 
-/// Text in memory, and the calls of `put` that are to fail.
+/// Text in memory, and the calls of `put` that fail.
 #[derive(Debug, Drop)]
 pub struct MemorySink {
     written: Vec<u8>,
@@ -27,7 +26,7 @@ pub struct MemorySink {
 }
 
 impl MemorySink {
-    /// A sink to which nothing was written yet, of which these calls are to fail. Its count is 0.
+    /// An empty sink, before its first call. The calls in `failing` will fail.
     pub fn new(alloc: Global, failing: List<FailPut>) -> MemorySink
         requires { IsTrue (spec.are_distinct failing) }
         ensures { spec.IsFresh failing result }
@@ -76,6 +75,7 @@ impl Sink for MemorySink {
     }
 }
 
+/// How much this call takes of its piece, where it is to fail.
 fn taken_at(failing: &[FailPut], call: u64) -> Option<u32>
     ensures { result ≡ spec.taken_at failing.now call }
 {

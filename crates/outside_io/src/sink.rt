@@ -5,18 +5,18 @@ ghost use Rattle.outside_io.specs.Sinks.{Counts, Puts};
 use std::alloc::{AllocError, Global};
 use thiserror::Error;
 
-/// Why a piece was not written.
+/// Why a piece was not written whole.
 #[derive(Clone, Copy, Debug, PartialEq, Eq, Error)]
 pub enum SinkFault {
-    /// A beginning of the piece was written, and maybe none of it. The sink's faults rose.
+    /// The write failed: a beginning of the piece was written, maybe none of it. The sink's faults rose.
     #[error("the text was not written")]
     Failed,
-    /// There was not enough memory. Nothing was written, and no count rose.
+    /// Out of memory. Nothing was written, and no count rose.
     #[error("out of memory")]
     Memory,
 }
 
-/// A place to which text is written in pieces. Its count never falls, and stops at 2^64 - 1.
+/// An output that is written in pieces. The count never falls, and stops at 2^64 - 1.
 pub trait Sink {
     /// What was written, where that is told.
     ghost written: { Self → Option (List ℕ) };

@@ -7,8 +7,8 @@ use crate::{Sink, SinkFault};
 use std::alloc::Global;
 use std::io::Write;
 
-/// A writer as a sink. What standard output holds is not told; of a writer that tells what it holds, that is what was
-/// written. The writer takes a piece in as many turns as it likes; an error, or a turn that takes nothing, is a fault.
+/// A writer as a sink, mostly standard output. What was written is told where the writer tells what it holds, which
+/// standard output does not. A piece may take several calls of the writer; an error, or a call that takes no byte, is a fault.
 #[derive(Debug, Drop)]
 pub struct StdSink<W: Write> {
     inner: W,

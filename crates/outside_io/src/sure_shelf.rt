@@ -1,5 +1,5 @@
-//! A shelf in memory that never fails.
-ghost use Rattle.std.specs.Prelude.{◌≡◌, IsTrue};
+//! A shelf in memory whose fetches never fail.
+ghost use Rattle.std.specs.Prelude.{◌≡◌, IsTrue, Some, false};
 ghost use Rattle.outside_io.specs.HeldFiles.{are_distinct};
 ghost use Rattle.outside_io.specs.SureShelves.{contents_of, fresh_shelf};
 
@@ -9,7 +9,7 @@ use crate::{Held, Shelf, ShelfFault};
 use base_kit::List;
 use std::alloc::Global;
 
-/// Files in memory. Its count of faults is the constant 0, so a fetch is never `Failed`.
+/// Files in memory. A fetch is never `Failed`, and the count of faults is always 0.
 #[derive(Debug, Drop)]
 pub struct SureShelf {
     held: List<Held>,
@@ -17,7 +17,7 @@ pub struct SureShelf {
 }
 
 impl SureShelf {
-    /// A shelf of these files, whose counts are 0.
+    /// A shelf of these files, before its first fetch.
     pub fn new(held: List<Held>) -> SureShelf
         requires { IsTrue (are_distinct held) }
         ensures { result ≡ fresh_shelf held }
@@ -28,6 +28,8 @@ impl SureShelf {
 
 impl Shelf for SureShelf {
     ghost held = { contents_of };
+
+    ghost fails = { λ _. Some (λ _. false) };
 
     ghost misses = { λ shelf. shelf.misses };
 

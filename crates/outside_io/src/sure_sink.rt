@@ -1,4 +1,4 @@
-//! A sink in memory that never fails.
+//! A sink in memory whose writes never fail.
 ghost use Rattle.std.specs.Prelude.{◌≡◌, Some, []};
 ghost use Rattle.outside_io.specs.SureSinks.{written_to};
 
@@ -6,14 +6,14 @@ use crate::append::append;
 use crate::{Sink, SinkFault};
 use std::alloc::Global;
 
-/// Text in memory. Its count of faults is the constant 0, so a call is never `Failed`; it can want memory.
+/// Text in memory. A call is never `Failed`, and the count of faults is always 0; it can run out of memory.
 #[derive(Debug, Drop)]
 pub struct SureSink {
     written: Vec<u8>,
 }
 
 impl SureSink {
-    /// A sink to which nothing was written yet.
+    /// An empty sink.
     pub fn new(alloc: Global) -> SureSink
         ensures { written_to result ≡ Some [] }
     {

@@ -1,4 +1,4 @@
-//! The program: its words to the run, and the run's status to the system.
+//! The program: runs the command of its arguments, and ends with its status.
 #![tactic(auto)]
 
 use outside_io::{FileShelf, StdSink};
@@ -6,10 +6,10 @@ use std::env;
 use std::process::ExitCode;
 use tiresias_core::run;
 
-/// The status where the system does not give the words as texts.
+/// The status where the arguments are not all texts.
 const NO_WORDS: u8 = 12;
 
-/// The status of want of memory, which `run` has too.
+/// The status where memory is wanting, as of `run`.
 const NO_MEMORY: u8 = 9;
 
 fn main(rt: HostRuntime) -> ExitCode {

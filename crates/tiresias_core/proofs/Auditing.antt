@@ -1,4 +1,4 @@
--- what the listing of worlds answers, and what a check accepts
+-- what is answered to a job that is solved, and what a check accepts
 use Rattle.std.proofs.Common.{◌≡◌, ℕ, ℤ, ◌^◌, ◌<◌, ◌≤◌, arith, List, subst}
 use Rattle.std.specs.Prelude.{Ok, true}
 use Rattle.answer_text.specs.Worlds.{IsWorldOf}
@@ -10,48 +10,45 @@ use Rattle.cert_check.specs.Reasons.{IsOutcome, is_finished}
 use Rattle.cert_check.specs.Valid.{IsRight, IsValid, NoFaults}
 use Rattle.cert_check.proofs.Accepted.{accepted_valid, valid_right}
 use Rattle.job_intake.specs.declared.job.Job.{Job}
-use Rattle.job_intake.specs.declared.job.Task.TheVariants as task
 use Rattle.job_intake.specs.Ready.{IsReady}
 use Rattle.job_intake.specs.Tasks.{IsTaken}
-use Rattle.job_intake.specs.Visits.{Visit}
-use Rattle.listed_audit.proofs.Accepted.{listed_sound, listed_valid}
-use Rattle.listed_audit.proofs.Sections.{rows_read}
-use Rattle.listed_audit.proofs.Spelled.{listed_text}
+use Rattle.job_intake.proofs.Readied.{comes_ready}
 use Rattle.world_def.specs.Meaning.{IsBest, score}
 use Rattle.world_def.specs.declared.world.World.{World}
-use Rattle.world_listing.specs.Parts.{Answers, IsOptimal, Tells as Verdicts}
+use Rattle.world_listing.proofs.Texts.{listed_text}
 use Rattle.tiresias_core.specs.Causes.{Checks, Solves}
 use Rattle.tiresias_core.specs.Results.{IsReadable}
+use Rattle.tiresias_core.specs.Sights.{Run}
+use Rattle.tiresias_core.specs.Solving.{IsSolution}
+use Rattle.tiresias_core.proofs.Listed.{listed_sound, listed_valid, optimal_best}
 
-module _ (words : List (List ℕ)) (v : Visit) (job : Job) (nodes : ℕ) (answer : Answer) (solves : Solves words v job nodes) (answers : Answers job.query job.tables job.columns nodes answer) where
+module _ (run : Run) (job : Job) (nodes : ℕ) (answer : Answer) (solves : Solves run job nodes) (solution : IsSolution job.query job.tables job.columns nodes answer) where
   ready : IsReady job
-  ready = solves.work.ready
+  ready = comes_ready run.words run.visit job solves.comes
 
   few_nodes : nodes < 2 ^ 32
   few_nodes = let few : nodes ≤ 100000 = subst IsTaken solves.task ready.taken in omega (arith, few)
 
-  readable : IsReadable answer
-  readable short = listed_text job.query job.tables job.columns nodes answer ready.asked.numbered.fit ready.tables ready.columns ready.wide few_nodes answers short
+  -- it is read from its text
+  pub readable_says : IsReadable answer
+  readable_says short = listed_text job.query job.tables job.columns nodes answer ready.asked.fit ready.tables ready.columns ready.wide few_nodes solution short
 
-  -- a finished answer is valid, no world that a check of it judges is at fault, and it is read from its text
-  pub finished_says : is_finished answer.verdict ≡ true → IsValid job.query job.tables job.columns answer × NoFaults job.query job.tables job.columns answer.verdict × IsReadable answer
+  -- a finished one is valid, and no world that a check of it judges is at fault
+  pub finished_says : is_finished answer.verdict ≡ true → IsValid job.query job.tables job.columns answer × NoFaults job.query job.tables job.columns answer.verdict
   finished_says finished = (
-    listed_valid job.query job.tables job.columns nodes answer ready.asked.numbered.fit ready.tables ready.columns ready.wide answers finished,
-    listed_sound job.query job.tables job.columns nodes answer ready.asked.numbered.fit ready.tables ready.columns ready.wide answers,
-    readable,
+    listed_valid job.query job.tables job.columns nodes answer ready.asked.fit ready.tables ready.columns ready.wide solution finished,
+    listed_sound job.query job.tables job.columns nodes answer ready.asked.fit ready.tables ready.columns ready.wide solution,
   )
 
   -- and where it is optimal, its sections are those of a best world
   pub optimal_says : (objective : ℤ) (worlds : List WorldText) (parts : List PartAnswer) → answer.verdict ≡ verdict.Optimal objective worlds parts →
       (world : World) × IsWorldOf job.query job.tables worlds world × IsBest job.query job.tables world × (objective ≡ score job.query.aim job.tables world)
-  optimal_says objective worlds parts at =
-      let told : IsOptimal job.query job.tables job.columns nodes objective worlds parts = subst (Verdicts job.query job.tables job.columns nodes) at answers.verdict in
-      (told.world, rows_read job.query job.tables job.columns worlds told.world ready.asked.numbered.fit ready.tables ready.columns ready.wide told.best.possible told.sections, told.best, told.score)
+  optimal_says = optimal_best job.query job.tables job.columns nodes answer solution ready.asked.fit ready.tables ready.columns ready.wide
 
 -- an answer that is accepted is valid, and right
-pub accepted_right : (words : List (List ℕ)) (v : Visit) (job : Job) (answer : Answer) → Checks words v job answer → IsOutcome job.query job.tables job.columns answer (Ok tt) →
+pub accepted_right : (run : Run) (job : Job) (answer : Answer) → Checks run job answer → IsOutcome job.query job.tables job.columns answer (Ok tt) →
     IsValid job.query job.tables job.columns answer × IsRight job.query job.tables answer.verdict
-accepted_right words v job answer checks of =
-    let ready = checks.work.ready in
-    let valid = accepted_valid job.query job.tables job.columns ready.columns ready.asked.numbered.fit ready.tables answer of in
-    (valid, valid_right job.query job.tables job.columns ready.columns ready.asked.numbered.fit ready.tables answer valid)
+accepted_right run job answer checks of =
+    let ready = comes_ready run.words run.visit job checks.comes in
+    let valid = accepted_valid job.query job.tables job.columns ready.columns ready.asked.fit ready.tables answer of in
+    (valid, valid_right job.query job.tables job.columns ready.columns ready.asked.fit ready.tables answer valid)

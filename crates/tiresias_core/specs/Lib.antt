@@ -5,4 +5,6 @@ pub mod Pieces
 pub mod Replies
 pub mod Results
 pub mod Runs
+pub mod Sights
+pub mod Solving
 pub mod Verdicts

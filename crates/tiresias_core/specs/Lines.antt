@@ -13,6 +13,7 @@ use Rattle.tables_csv.specs.declared.fault.TableFault.TheVariants as table
 use Rattle.tiql_check.specs.declared.fault.SoundFault.{SoundFault}
 use Rattle.tiql_check.specs.declared.fault.SoundFault.TheVariants as rule
 
+-- the status of a refusal
 abbrev pub refusal_status : Refusal → Status
 refusal_status refusal.Words = status.Words
 refusal_status (refusal.File name why) = status.Read
@@ -27,13 +28,13 @@ refusal_status (refusal.TooManyColumns count) = status.Size
 refusal_status (refusal.PartTooLarge columns) = status.Size
 refusal_status (refusal.Unreadable line) = status.Unreadable
 
--- the line that names a file which is not to be had
+-- the line of a file that is refused
 abbrev pub file_line : List ℕ → FileFault → List ℕ
 file_line name fault.Absent = codes "refused: absent " ++ name ++ codes "" ++ 10 ∷ []
 file_line name fault.ReadFailed = codes "refused: read failed " ++ name ++ codes "" ++ 10 ∷ []
 file_line name fault.TooLong = codes "refused: too long " ++ name ++ codes "" ++ 10 ∷ []
 
--- the line of a query that is refused at a place
+-- the line of a query that is refused at this place
 abbrev pub line_at : List ℕ → Place → List ℕ
 line_at words place = (codes "refused: " ++ words ++ codes " " ++ decimal place.line ++ codes ":" ++ decimal place.column) ++ 10 ∷ []
 
@@ -71,7 +72,7 @@ rule_line fault = line_at (rule_words fault) (rule_place fault)
 abbrev pub cell_line : List ℕ → List ℕ → ℕ → ℕ → List ℕ
 cell_line words name one other = words ++ name ++ (codes " " ++ decimal one ++ codes " " ++ decimal other) ++ 10 ∷ []
 
--- the line of a file that is no table: its first fault
+-- the line of a file that is not a valid table: its first fault
 abbrev pub table_line : List ℕ → TableFault → List ℕ
 table_line name table.Header = codes "refused: header " ++ name ++ codes "" ++ 10 ∷ []
 table_line name table.TooManyRows = codes "refused: too many rows " ++ name ++ codes "" ++ 10 ∷ []
@@ -86,6 +87,7 @@ table_line name table.Memory = []
 abbrev pub wide_line : List ℕ → ℤ → List ℕ
 wide_line name number = codes "refused: range too wide " ++ name ++ (codes " " ++ signed_decimal number) ++ 10 ∷ []
 
+-- the line of a refusal
 abbrev pub refusal_line : Refusal → List ℕ
 refusal_line refusal.Words = codes "refused: words" ++ 10 ∷ []
 refusal_line (refusal.File name why) = file_line name why

@@ -12,12 +12,14 @@ use Rattle.tiresias_core.specs.Lines.{refusal_line, refusal_status, wide_line}
 use Rattle.tiresias_core.specs.declared.reply.Reply.{Reply}
 use Rattle.tiresias_core.specs.declared.reply.Reply.TheVariants as reply
 
+-- the status of an answer, by its verdict
 abbrev pub verdict_status : Verdict → Status
 verdict_status (verdict.Optimal objective worlds parts) = status.Done
 verdict_status (verdict.FalseRow row) = status.Impossible
 verdict_status (verdict.NoWorld part) = status.Impossible
 verdict_status (verdict.Unfinished nodes parts) = status.Unfinished
 
+-- the status of a reply
 abbrev pub status_of : Reply → Status
 status_of (reply.Refused why) = refusal_status why
 status_of (reply.Answered answer) = verdict_status answer.verdict
@@ -49,6 +51,7 @@ accepted_line None = codes "accepted impossible" ++ 10 ∷ []
 abbrev pub rejected_line : Reject → ℕ → ℕ → List ℕ
 rejected_line reason part node = (codes "rejected: " ++ reason_words reason ++ codes " " ++ decimal part ++ codes " " ++ decimal node) ++ 10 ∷ []
 
+-- the text of a reply
 abbrev pub text_of : Reply → List ℕ
 text_of (reply.Refused why) = refusal_line why
 text_of (reply.Answered answer) = answer_bytes answer

@@ -1,6 +1,5 @@
 -- what each status says of what was written
-use Rattle.std.specs.Prelude.{◌≡◌, ◌≤◌, ℕ, ℤ, List, Option, Err, length}
-use Rattle.std.specs.Io.KnownBytes.{Appends}
+use Rattle.std.specs.Prelude.{◌≡◌, ◌⊎◌, ◌≤◌, ℕ, ℤ, List, Ok, Err, length}
 use Rattle.cert_check.specs.Reasons.{IsOutcome}
 use Rattle.cert_check.specs.Valid.{IsRight, IsValid, NoFaults}
 use Rattle.cert_check.specs.declared.fault.Reject.{Reject}
@@ -13,34 +12,36 @@ use Rattle.answer_text.specs.declared.answer.PartAnswer.{PartAnswer}
 use Rattle.answer_text.specs.declared.answer.Verdict.TheVariants as verdict
 use Rattle.answer_text.specs.declared.answer.WorldText.{WorldText}
 use Rattle.base_kit.specs.declared.status.Status.{Status}
-use Rattle.job_intake.specs.declared.fetch.TheConstants.{MOST_ANSWER_BYTES}
+use Rattle.base_kit.specs.declared.status.Status.TheVariants as status
 use Rattle.job_intake.specs.declared.job.Job.{Job}
+use Rattle.job_intake.specs.declared.refusal.FileFault.TheVariants as fault
 use Rattle.job_intake.specs.declared.refusal.Refusal.{Refusal}
+use Rattle.outside_io.specs.Counts.{Rose}
 use Rattle.job_intake.specs.Jobs.{Comes}
-use Rattle.job_intake.specs.Visits.{Visit}
 use Rattle.world_def.specs.Meaning.{IsBest, NoneMeets, score}
 use Rattle.world_def.specs.declared.world.World.{World}
-use Rattle.world_listing.specs.Parts.{Answers, IsUnfinished}
-use Rattle.tiresias_core.specs.Causes.{Checks, IsWork, Passes, Solves}
-use Rattle.tiresias_core.specs.Lines.{refusal_line, refusal_status, wide_line}
+use Rattle.tiresias_core.specs.Causes.{Checks, IsReadFailed, Passes, Solves}
+use Rattle.tiresias_core.specs.Lines.{file_line, refusal_line, refusal_status, wide_line}
 use Rattle.tiresias_core.specs.Replies.{accepted_line, rejected_line}
+use Rattle.tiresias_core.specs.Sights.{Run, Writes}
+use Rattle.tiresias_core.specs.Solving.{IsSolution}
 use Rattle.tiresias_core.specs.Verdicts.{objective_of}
 
 -- an answer of at most 512 MiB is read from its text
 abbrev pub IsReadable : Answer → Type 0
-IsReadable answer = length (answer_bytes answer) ≤ MOST_ANSWER_BYTES → AnswerText answer (answer_bytes answer)
+IsReadable answer = length (answer_bytes answer) ≤ 536870912 → AnswerText answer (answer_bytes answer)
 
 -- the text of an optimal answer: the world of its sections is best, its objective is that world's score, and a check accepts it
-pub record WroteBest (words : List (List ℕ)) (v : Visit) (before now : Option (List ℕ)) : Type 0 where
+pub record WroteBest (run : Run) : Type 0 where
   pub job : Job
   pub nodes : ℕ
-  pub solves : Solves words v job nodes
+  pub solves : Solves run job nodes
   pub answer : Answer
   pub objective : ℤ
   pub worlds : List WorldText
   pub parts : List PartAnswer
   pub verdict : answer.verdict ≡ verdict.Optimal objective worlds parts
-  pub answers : Answers job.query job.tables job.columns nodes answer
+  pub solution : IsSolution job.query job.tables job.columns nodes answer
   pub world : World
   pub given : IsWorldOf job.query job.tables worlds world
   pub best : IsBest job.query job.tables world
@@ -48,65 +49,82 @@ pub record WroteBest (words : List (List ℕ)) (v : Visit) (before now : Option 
   pub valid : IsValid job.query job.tables job.columns answer
   pub sound : NoFaults job.query job.tables job.columns answer.verdict
   pub readable : IsReadable answer
-  pub text : Appends before now (answer_bytes answer)
+  pub text : Writes run (answer_bytes answer)
 
 -- the text of an impossible answer: no possible world meets, and a check accepts it
-pub record WroteNone (words : List (List ℕ)) (v : Visit) (before now : Option (List ℕ)) : Type 0 where
+pub record WroteNone (run : Run) : Type 0 where
   pub job : Job
   pub nodes : ℕ
-  pub solves : Solves words v job nodes
+  pub solves : Solves run job nodes
   pub none : NoneMeets job.query job.tables
   pub answer : Answer
-  pub answers : Answers job.query job.tables job.columns nodes answer
+  pub solution : IsSolution job.query job.tables job.columns nodes answer
   pub valid : IsValid job.query job.tables job.columns answer
   pub sound : NoFaults job.query job.tables job.columns answer.verdict
   pub readable : IsReadable answer
-  pub text : Appends before now (answer_bytes answer)
+  pub text : Writes run (answer_bytes answer)
 
--- the text of an unfinished answer: its tree has worked the whole budget, and a node is open
-pub record WroteUnfinished (words : List (List ℕ)) (v : Visit) (before now : Option (List ℕ)) : Type 0 where
+-- the text of an unfinished answer, which has worked the whole budget
+pub record WroteUnfinished (run : Run) : Type 0 where
   pub job : Job
-  pub budget : ℕ
-  pub solves : Solves words v job budget
-  pub answer : Answer
   pub nodes : ℕ
+  pub solves : Solves run job nodes
+  pub answer : Answer
   pub parts : List PartAnswer
   pub verdict : answer.verdict ≡ verdict.Unfinished nodes parts
-  pub unfinished : IsUnfinished job.query job.tables job.columns budget nodes parts
-  pub text : Appends before now (answer_bytes answer)
+  pub solution : IsSolution job.query job.tables job.columns nodes answer
+  pub readable : IsReadable answer
+  pub text : Writes run (answer_bytes answer)
 
 -- the line of a refusal, which has this status
-pub record WroteRefusal (words : List (List ℕ)) (v : Visit) (before now : Option (List ℕ)) (told : Status) : Type 0 where
+pub record WroteRefusal (run : Run) (told : Status) : Type 0 where
   pub why : Refusal
   pub status : refusal_status why ≡ told
-  pub comes : Comes words v (Err why)
-  pub text : Appends before now (refusal_line why)
+  pub comes : Comes run.words run.visit (Err why)
+  pub text : Writes run (refusal_line why)
+
+-- the line of a file that could not be read; nothing that stands before its fetch is refused
+pub record WroteReadFailed (run : Run) : Type 0 where
+  pub name : List ℕ
+  pub failed : IsReadFailed run name
+  pub text : Writes run (file_line name fault.ReadFailed)
 
 -- the line of a value that is too large in a judged world
-pub record WroteWide (words : List (List ℕ)) (v : Visit) (before now : Option (List ℕ)) : Type 0 where
+pub record WroteWide (run : Run) : Type 0 where
   pub job : Job
-  pub work : IsWork words v job
+  pub comes : Comes run.words run.visit (Ok job)
   pub name : List ℕ
   pub number : ℤ
   pub cause : Passes job job.task name number
-  pub text : Appends before now (wide_line name number)
+  pub text : Writes run (wide_line name number)
 
 -- the line of an answer that is accepted: it is valid, and what it says is right, whoever wrote it
-pub record WroteAccepted (words : List (List ℕ)) (v : Visit) (before now : Option (List ℕ)) : Type 0 where
+pub record WroteAccepted (run : Run) : Type 0 where
   pub job : Job
   pub answer : Answer
-  pub checks : Checks words v job answer
+  pub checks : Checks run job answer
   pub valid : IsValid job.query job.tables job.columns answer
   pub right : IsRight job.query job.tables answer.verdict
-  pub text : Appends before now (accepted_line (objective_of answer.verdict))
+  pub text : Writes run (accepted_line (objective_of answer.verdict))
 
 -- the line of an answer that is not valid: its first reason, with the part and the node
-pub record WroteRejected (words : List (List ℕ)) (v : Visit) (before now : Option (List ℕ)) : Type 0 where
+pub record WroteRejected (run : Run) : Type 0 where
   pub job : Job
   pub answer : Answer
-  pub checks : Checks words v job answer
+  pub checks : Checks run job answer
   pub reason : Reject
   pub part : ℕ
   pub node : ℕ
   pub first : IsOutcome job.query job.tables job.columns answer (Err (wrong.Rejected reason part node))
-  pub text : Appends before now (rejected_line reason part node)
+  pub text : Writes run (rejected_line reason part node)
+
+-- what each status says
+abbrev pub Says : Run → Status → Type 0
+Says run status.Done = WroteBest run ⊎ WroteAccepted run
+Says run status.Impossible = WroteNone run
+Says run status.Unfinished = WroteUnfinished run
+Says run status.Rejected = WroteRejected run
+Says run status.Size = WroteRefusal run status.Size ⊎ WroteWide run
+Says run status.Write = Rose run.faults run.faults_now
+Says run status.Memory = Unit {0}
+Says run other = WroteRefusal run other

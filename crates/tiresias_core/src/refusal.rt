@@ -71,7 +71,7 @@ pub(crate) fn refusal_line(alloc: Global, why: &Refusal) -> Result<List<u8>, Mem
     }
 }
 
-/// The line of a value or bound that is too large, over the relation of this name.
+/// The line of a value or bound over the relation of this name that is too large.
 pub(crate) fn wide_line(alloc: Global, name: &[u8], number: i128) -> Result<List<u8>, Memory>
     ensures { IfOk result (λ line. line ≡ spec.wide_line name.now number) }
 {
@@ -79,7 +79,7 @@ pub(crate) fn wide_line(alloc: Global, name: &[u8], number: i128) -> Result<List
     named_line(alloc, "refused: range too wide ", name, behind.as_str())
 }
 
-/// The line of a file that is not to be had.
+/// The line of a file that is refused.
 fn file_line(alloc: Global, name: &[u8], why: FileFault) -> Result<List<u8>, Memory>
     ensures { IfOk result (λ line. line ≡ spec.file_line name.now why) }
 {
@@ -90,7 +90,7 @@ fn file_line(alloc: Global, name: &[u8], why: FileFault) -> Result<List<u8>, Mem
     }
 }
 
-/// The line of a query that is refused at a place.
+/// The line of a query that is refused at this place.
 fn line_at(alloc: Global, words: &str, place: Place) -> Result<List<u8>, Memory>
     ensures { IfOk result (λ line. line ≡ spec.line_at words.now place) }
 {
@@ -125,7 +125,7 @@ fn rule_of(fault: SoundFault) -> Result<(&'static str, Place), Memory>
     }
 }
 
-/// The line of a file that is no table.
+/// The line of a file that is not a valid table.
 fn table_line(alloc: Global, table: &[u8], why: TableFault) -> Result<List<u8>, Memory>
     ensures { IfOk result (λ line. line ≡ spec.table_line table.now why) }
 {

@@ -1,4 +1,4 @@
-//! What a run answers, with the status and the text of each answer.
+//! Replies to a command, with the status and the text of each.
 
 ghost use Rattle.std.specs.Prelude.{◌≡◌, IfOk};
 ghost use Rattle.tiresias_core.specs.Replies as spec;
@@ -12,18 +12,18 @@ use cert_check::Reject;
 use job_intake::Refusal;
 use std::alloc::Global;
 
-/// What is answered: a refusal, the answer to a query, or what a check comes to.
+/// The reply to a command.
 #[derive(Debug, Drop)]
 pub(crate) enum Reply {
-    /// There is nothing to do.
+    /// The command is refused.
     Refused(Refusal),
-    /// The worlds were listed.
+    /// The query is answered.
     Answered(Answer),
-    /// In a judged world a value over the relation of this name is too large.
+    /// A value over the relation of this name is above 10^17 in size in a world that was looked at.
     TooWide { name: List<u8>, number: i128 },
-    /// The answer is valid; the objective where it is optimal.
+    /// The checked answer is valid; the objective where it is optimal.
     Accepted(Option<i64>),
-    /// The answer is not valid: the first reason, with its part and node.
+    /// The checked answer is not valid: the first reason, with its part and node.
     Rejected(Reject, u32, u32),
 }
 
@@ -40,6 +40,7 @@ pub(crate) fn status_of(reply: &Reply) -> Status
     }
 }
 
+/// The status of an answer, by its verdict.
 fn verdict_status(verdict: &Verdict) -> Status
     ensures { result ≡ spec.verdict_status verdict.now }
 {

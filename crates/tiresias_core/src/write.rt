@@ -1,4 +1,4 @@
-//! A text to the sink, in pieces.
+//! Writes a text to the sink in pieces.
 
 ghost use Rattle.outside_io.specs.Sinks.{Counts};
 ghost use Rattle.tiresias_core.specs.Pieces.{WritesText};

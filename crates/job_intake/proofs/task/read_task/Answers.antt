@@ -6,8 +6,8 @@ use Rattle.job_intake.proofs.task.read_task.Goals as goal
 not_memory : (line : ℕ) → fault.BadAnswer line ≡ fault.Memory → ⊥
 not_memory line e = cc
 
-pub returns-in-Err-BadAnswer-clause-comes : goal.returns-in-Err-BadAnswer-clause-comes
-returns-in-Err-BadAnswer-clause-comes c = (
+pub returns-in-Err-BadAnswer : goal.returns-in-Err-BadAnswer
+returns-in-Err-BadAnswer c = (
   c.in-Err-BadAnswer.line,
   refl,
   record {

@@ -1,10 +1,10 @@
-//! Each implementation once, with memory to spare.
+//! Each shelf and each sink once, with memory to spare.
 
-use crate::{
+use base_kit::{List, Txt};
+use outside_io::{
     FailPut, FileShelf, Held, MemoryShelf, MemorySink, Shelf, ShelfFault, Sink, SinkFault, StdSink,
     SureShelf, SureSink,
 };
-use base_kit::{List, Txt};
 use std::io::{ErrorKind, Write};
 use std::test::Fail;
 use std::{fs, io};
