@@ -1,0 +1,13 @@
+pub mod PivotLaws
+pub mod Sums
+pub mod Solutions
+pub mod Narrow
+pub mod RowLemmas
+pub mod ShareLemmas
+pub mod Lines
+pub mod Values
+pub mod StartLaws
+pub mod StartRows
+pub mod StartTable
+pub mod Asked
+pub mod Kept

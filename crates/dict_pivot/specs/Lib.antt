@@ -1,0 +1,5 @@
+pub mod Tables
+pub mod Dictionaries
+pub mod Steps
+pub mod Quantities
+pub mod First
