@@ -1,0 +1,9 @@
+pub mod Among
+pub mod Chains
+pub mod RowLemmas
+pub mod ColumnLemmas
+pub mod LabelLemmas
+pub mod FillLemmas
+pub mod PartLemmas
+pub mod PartLaws
+pub mod SizeLemmas

@@ -1,0 +1,4 @@
+pub mod Linked
+pub mod Parts
+pub mod Spreading
+pub mod Filling

@@ -1,0 +1,10 @@
+pub mod Casts
+pub mod RowLemmas
+pub mod SumLemmas
+pub mod PointLemmas
+pub mod ChainLemmas
+pub mod EntryLemmas
+pub mod UnlinkLemmas
+pub mod SieveLemmas
+pub mod ReduceLemmas
+pub mod ReducedLaws

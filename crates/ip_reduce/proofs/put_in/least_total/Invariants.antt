@@ -1,0 +1,7 @@
+use Rattle.ip_rows.specs.Programs.{sides_of}
+use Rattle.ip_reduce.specs.Rows.{least_part}
+use Rattle.ip_reduce.proofs.SumLemmas.{IsOnTheWay}
+use Rattle.ip_reduce.proofs.put_in.least_total.Given as goal
+
+abbrev pub invariant-loop-term : goal.invariant-loop-term
+invariant-loop-term l = IsOnTheWay (sides_of l.columns) (least_part (sides_of l.columns)) l.terms l.term-index l.sum
