@@ -1,5 +1,5 @@
 -- What an accepted answer says: it is valid, and then its world is best, or no world meets.
-use Rattle.std.proofs.Common.{◌≡◌, ℕ, ℤ, ◌≤ℤ◌, Bool, true, false, not, List, [], ◌∷◌, refl, sym, ◌∙◌, ap, subst, arith}
+use Rattle.std.proofs.Common.{◌≡◌, ℕ, ℤ, ◌≤ℤ◌, true, false, not, List, [], ◌∷◌, refl, sym, ◌∙◌, ap, subst, arith}
 use Rattle.std.specs.Prelude.{Option, Some, None, Ok, Err, IfOk, MatchResult, IsSome, is_some, is_none, position, ◌==◌, ◌&&◌, All}
 use Rattle.std.specs.List.{AllZip}
 use Rattle.std.proofs.lemmas.Bool.{eqb-true, eq-eqb, and_parts, and_from, not-true}
@@ -25,7 +25,7 @@ use Rattle.world_def.specs.declared.world.World.{World}
 use Rattle.world_def.specs.declared.world.WorldTable.{WorldTable}
 use Rattle.world_def.specs.Columns.{Tables, columns_of}
 use Rattle.world_def.specs.Meaning.{IsBest, IsPossible, Meets, NoneMeets, score}
-use Rattle.world_def.proofs.Agreed.{and_then-Ok}
+use Rattle.row_values.proofs.Agreed.{and_then-Ok}
 use Rattle.world_def.proofs.Choices.{columns_told}
 use Rattle.world_def.proofs.Restored.{world_restored}
 use Rattle.world_points.specs.Points as points
@@ -58,7 +58,7 @@ values_same (Some m) (Some n) is = (Decides-int_eq m n).1 (inside is)
     inside : {a b : ℤ} → ◌≡◌ {A = Option ℤ} (Some a) (Some b) → a ≡ b
     inside e = cc
 
-module _ (query : Query) (tables : Tables) (columns : List WorldColumn) (made : columns_of query tables ≡ Ok columns) where
+module _ (query : Query) (tables : Tables) (columns : List WorldColumn) (made : columns_of query tables ≡ Ok columns) (fit : IsWellFormed query) where
   all_sides : AreSides (root columns)
   all_sides = sides_there query tables columns made
 
@@ -74,15 +74,15 @@ module _ (query : Query) (tables : Tables) (columns : List WorldColumn) (made : 
   part_closed best part tree the has right =
       let is = part_is part the in
       let same = unless_ok (is_same part.best best) reject.BestDiffers part.number 0 (first_ok (unless (is_same part.best best) reject.BestDiffers part.number 0) _ right) in
-      let closes = tree_right query tables columns best part.number tree (root columns) 1 all_sides (next_ok (unless (is_same part.best best) reject.BestDiffers part.number 0) _ right) in
+      let closes = tree_right query tables columns fit best part.number tree (root columns) 1 all_sides (next_ok (unless (is_same part.best best) reject.BestDiffers part.number 0) _ right) in
       record { number = is.0; shown = is.1; found = same_values part.best best same; tree = tree; nodes = has; done = closes.0; closes = closes.1 }
 
-  -- and nothing is wrong in a part that is closed, where no value is too large
+  -- and nothing is wrong in a part that is closed, where no world is at fault
   closed_part : (best : Option ℤ) (part : PartAnswer) (tree : Tree) → part.tree ≡ preorder tree → IsClosed query tables columns best part → IsSoundPart query tables columns part → in_part query tables columns best part tree ≡ Ok tt
   closed_part best part tree has whole sound =
       let one : whole.tree ≡ tree = one_tree whole.tree tree (sym whole.nodes ∙ has) in
       both_ok (unless (is_same part.best best) reject.BestDiffers part.number 0) _ (holds_ok (is_same part.best best) reject.BestDiffers part.number 0 (values_same part.best best whole.found))
-      (right_tree query tables columns best part.number tree (root columns) 1 (subst (λ (t : Tree). is_done t ≡ true) one whole.done) (subst (λ (t : Tree). Closes (cost_at query tables columns) best t (root columns)) one whole.closes) (sound tree has))
+      (right_tree query tables columns fit best part.number tree (root columns) 1 (subst (λ (t : Tree). is_done t ≡ true) one whole.done) (subst (λ (t : Tree). Closes (cost_at query tables columns) best t (root columns)) one whole.closes) (sound tree has))
 
   choice : have_two (root columns) ≡ is_some (position has_two (root columns))
   choice = choice_position (root columns) all_sides
@@ -140,28 +140,28 @@ module _ (query : Query) (tables : Tables) (columns : List WorldColumn) (made : 
       let same : point ≡ other = one_inside (root columns) point fixed there ∙ sym (one_inside (root columns) other fixed inside) in
       subst (NoBetter (Some value)) (sym is ∙ ap (cost_at query tables columns) same) (at_most_itself value value refl)
 
-  module _ (fit : IsWellFormed query) (are : AreTables query tables) where
+  module _ (are : AreTables query tables) where
     -- a possible world that meets is best where no column has two values
     fixed_least : AreFixed (root columns) → (world : World) → IsPossible query tables world → Meets query tables world → (other : List ℤ) → InBox (root columns) other
-        → NoBetter (Some (cost query.aim (score query.aim tables world))) (cost_at query tables columns other)
+        → NoBetter (Some (cost query.aim (score query tables world))) (cost_at query tables columns other)
     fixed_least fixed world possible meets other inside = by_value (cost_at query tables columns other) refl
       where
         same : other ≡ numbers query tables columns world
         same = one_inside (root columns) other fixed inside ∙ sym (one_inside (root columns) (numbers query tables columns world) fixed (own_inside query tables columns made fit are world possible))
 
-        by_value : (o : Option ℤ) → cost_at query tables columns other ≡ o → NoBetter (Some (cost query.aim (score query.aim tables world))) o
+        by_value : (o : Option ℤ) → cost_at query tables columns other ≡ o → NoBetter (Some (cost query.aim (score query tables world))) o
         by_value None is = tt
         by_value (Some value) is =
             let best = best_there query tables columns made fit are other value is (only_point fixed other value inside is) in
             let its : points.world_at query tables columns other ≡ world = ap (points.world_at query tables columns) same ∙ world_is world possible in
-            at_most_itself (cost query.aim (score query.aim tables world)) value (sym (best.1 ∙ ap (λ (w : World). cost query.aim (score query.aim tables w)) its))
+            at_most_itself (cost query.aim (score query tables world)) value (sym (best.1 ∙ ap (λ (w : World). cost query.aim (score query tables w)) its))
 
     -- an optimal answer that is valid has the best world
     pub valid_best : (objective : ℤ) (worlds : List WorldText) (parts : List PartAnswer) (valid : IsValidOptimal query tables columns objective worlds parts) → IsBest query tables valid.world
     valid_best objective worlds parts valid = best_of query tables columns made fit are valid.world valid.possible valid.meets (by_first (position has_two (root columns)) refl valid.closed)
       where
         by_first : (o : Option ℕ) → position has_two (root columns) ≡ o → AreClosedFor query tables columns (Some (cost query.aim objective)) o parts → (other : List ℤ) → InBox (root columns) other
-            → NoBetter (Some (cost query.aim (score query.aim tables valid.world))) (cost_at query tables columns other)
+            → NoBetter (Some (cost query.aim (score query tables valid.world))) (cost_at query tables columns other)
         by_first None is closed other inside = fixed_least (fixed_of_test (root columns) all_sides (choice ∙ ap is_some is)) valid.world valid.possible valid.meets other inside
         by_first (Some column) is closed other inside =
             subst (λ (n : ℤ). NoBetter (Some (cost query.aim n)) (cost_at query tables columns other)) valid.value
@@ -183,7 +183,7 @@ module _ (query : Query) (tables : Tables) (columns : List WorldColumn) (made : 
           first = eqb-true row 0 inner.0;
           fixed = fixed;
           none = none_there query tables columns made fit are (λ other inside.
-              subst (NoBetter None) (sym (agree query tables columns (lows (root columns)) told.0 told.1) ∙ ap (cost_at query tables columns) (sym (one_inside (root columns) other fixed inside))) (by_value told.0 none));
+              subst (NoBetter None) (sym (agree query tables columns fit (lows (root columns)) told.0 told.1) ∙ ap (cost_at query tables columns) (sym (one_inside (root columns) other fixed inside))) (by_value told.0 none));
         }
       where
         by_value : (o : Option ℤ) → is_none o ≡ true → NoBetter None o
@@ -196,7 +196,7 @@ module _ (query : Query) (tables : Tables) (columns : List WorldColumn) (made : 
         both_ok (unless (row == 0 && not (have_two (root columns))) reject.RowHolds 0 0) _
         (holds_ok (row == 0 && not (have_two (root columns))) reject.RowHolds 0 0 (and_from (row == 0) (not (have_two (root columns))) (eq-eqb row 0 valid.first) (ap not (test_of_fixed (root columns) valid.fixed))))
         (ok_asked (judged_at query tables columns (lows (root columns))) (λ value. unless (is_none value) reject.RowHolds 0 0) told.0 tt told.1
-        (holds_ok (is_none told.0) reject.RowHolds 0 0 (by_value told.0 (agree query tables columns (lows (root columns)) told.0 told.1))))
+        (holds_ok (is_none told.0) reject.RowHolds 0 0 (by_value told.0 (agree query tables columns fit (lows (root columns)) told.0 told.1))))
       where
         by_value : (o : Option ℤ) → cost_at query tables columns (lows (root columns)) ≡ o → is_none o ≡ true
         by_value None e = refl
@@ -210,7 +210,7 @@ module _ (query : Query) (tables : Tables) (columns : List WorldColumn) (made : 
     optimal_valid objective worlds parts None trees gives have right = cc
     optimal_valid objective worlds parts (Some world) trees gives have right =
         let told = and_then-Ok (cost_of query tables objective world) (λ best. of_parts query tables columns (Some best) parts trees) tt right in
-        let its = cost_is query tables objective world told.0 told.1 in
+        let its = cost_is query tables fit objective world told.0 told.1 in
         let parted = unless (are_all_parts (root columns) parts) reject.WrongParts 0 0 in
         record {
           world = world;
@@ -228,7 +228,7 @@ module _ (query : Query) (tables : Tables) (columns : List WorldColumn) (made : 
     valid_optimal objective worlds parts (Some world) trees gives have valid sound =
         let same : valid.world ≡ world = world_one query tables are worlds valid.world world valid.given gives.0 in
         let its : cost_of query tables objective world ≡ Ok (cost query.aim objective) =
-        is_cost query tables objective world (subst (Meets query tables) same valid.meets) (valid.value ∙ ap (score query.aim tables) same) (sound.0 world gives.0) in
+        is_cost query tables fit objective world (subst (Meets query tables) same valid.meets) (valid.value ∙ ap (score query tables) same) (sound.0 world gives.0) in
         let right = none_wrong (Some (cost query.aim objective)) parts trees (position has_two (root columns)) refl have valid.closed sound.1 in
         rw its (both_ok (unless (are_all_parts (root columns) parts) reject.WrongParts 0 0) _ (holds_ok (are_all_parts (root columns) parts) reject.WrongParts 0 0 right.0) right.1)
 
@@ -286,7 +286,7 @@ module _ (query : Query) (tables : Tables) (columns : List WorldColumn) (made : 
               let inner = and_parts (answer.columns == 0) (answer.rows == 0) outer.0 in
               record { no_columns = eqb-true answer.columns 0 inner.0; no_rows = eqb-true answer.rows 0 inner.1; no_formulas = eqb-true answer.formulas 0 outer.1; verdict = verdict_valid answer.verdict rest finished }
 
-      -- and for a valid answer none comes, where no value is too large
+      -- and for a valid answer none comes, where no world is at fault
       pub valid_accepted : (outcome : Outcome) → IsValid query tables columns answer → NoFaults query tables columns answer.verdict → IsOutcome query tables columns answer outcome → outcome ≡ Ok tt
       valid_accepted outcome valid sound of =
           let finished : is_finished answer.verdict ≡ true = is_done_verdict answer.verdict valid.verdict in
@@ -310,8 +310,9 @@ module _ (query : Query) (tables : Tables) (columns : List WorldColumn) (made : 
       pub told_accepted : (told : Outcome) → TellsFirst query tables columns answer told → IsValid query tables columns answer → NoFaults query tables columns answer.verdict → MatchResult told (λ x. Unit {0}) (λ e. e ≡ fault.Memory)
       told_accepted (Ok x) tells valid sound = tt
       told_accepted (Err fault.Memory) tells valid sound = refl
-      told_accepted (Err (fault.Wide source number)) tells valid sound = let wrong = valid_accepted (Err (fault.Wide source number)) valid sound tells in cc
-      told_accepted (Err (fault.Rejected reason part node)) tells valid sound = let wrong = valid_accepted (Err (fault.Rejected reason part node)) valid sound tells in cc
+      told_accepted (Err (fault.Wide source number)) tells valid sound = let wrong = valid_accepted (Err (fault.Wide source number)) valid sound (tells (λ same. cc)) in cc
+      told_accepted (Err (fault.TooManyRows view limit)) tells valid sound = let wrong = valid_accepted (Err (fault.TooManyRows view limit)) valid sound (tells (λ same. cc)) in cc
+      told_accepted (Err (fault.Rejected reason part node)) tells valid sound = let wrong = valid_accepted (Err (fault.Rejected reason part node)) valid sound (tells (λ same. cc)) in cc
 
       -- a valid answer is right
       right_verdict : (told : Verdict) → IsValidVerdict query tables columns told → IsRight query tables told

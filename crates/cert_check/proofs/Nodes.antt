@@ -15,7 +15,6 @@ use Rattle.world_def.specs.Columns.{Tables}
 use Rattle.cert_check.specs.declared.fault.Reject.TheVariants as reject
 use Rattle.cert_check.specs.declared.fault.Reject.{Reject}
 use Rattle.cert_check.specs.declared.fault.CheckFault.{CheckFault}
-use Rattle.cert_check.specs.declared.fault.CheckFault.TheVariants as fault
 use Rattle.cert_check.specs.Reasons.{Outcome, ◌>>◌, unless, is_parted, in_tree}
 use Rattle.cert_check.specs.Checks.{TellsOutcome}
 use Rattle.cert_check.specs.Walks.{PartsFirst, behind_node, at_node, in_nodes}
@@ -71,9 +70,7 @@ module _ (query : Query) (tables : Tables) (columns : List WorldColumn) (best : 
     wrong_here whole e wrong left = sym left ∙ nodes_here ∙ ap (λ (a : Outcome). a >> in_nodes query tables columns best part (drop (at + 1) nodes) (behind_node here more) (at + 1 + 1)) wrong
 
     pub gives_here : (whole : Outcome) (e : CheckFault) → TellsOutcome (at_node query tables columns best part here sides (at + 1)) (Err e) → in_nodes query tables columns best part (drop at nodes) more (at + 1) ≡ whole → TellsOutcome whole (Err e)
-    gives_here whole fault.Memory wrong left = tt
-    gives_here whole (fault.Wide source number) wrong left = wrong_here whole (fault.Wide source number) wrong left
-    gives_here whole (fault.Rejected reason number node) wrong left = wrong_here whole (fault.Rejected reason number node) wrong left
+    gives_here whole e wrong left = λ other. wrong_here whole e (wrong other) left
 
     pub right_here : (whole : Outcome) (behind : List (List Bounds)) → at_node query tables columns best part here sides (at + 1) ≡ Ok tt → behind ≡ behind_node here more → in_nodes query tables columns best part (drop at nodes) more (at + 1) ≡ whole →
         in_nodes query tables columns best part (drop (at + 1) nodes) behind (at + 1 + 1) ≡ whole

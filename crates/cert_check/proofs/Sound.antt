@@ -5,6 +5,7 @@ use Rattle.std.specs.Prelude.{Option, Some, None, Ok, Err, is_some, position, in
 use Rattle.std.proofs.lemmas.Int.{ints}
 use Rattle.std.proofs.lemmas.List.Quantifiers.{position-Some}
 use Rattle.ip_rows.specs.declared.Bounds.{Bounds}
+use Rattle.tiql_query.specs.WellFormed.{IsWellFormed}
 use Rattle.tiql_query.specs.declared.query.Query.{Query}
 use Rattle.tiql_query.specs.declared.world_column.WorldColumn.{WorldColumn}
 use Rattle.branch_tree.specs.declared.node.Leaf.TheVariants as leaf
@@ -96,7 +97,7 @@ parted_test sides column at parted = all_three _ _ _ (below _ _ parted.there) (a
     less : (m n : ℤ) → m <ℤ n → int_lt m n ≡ true
     less m n e = grind (arith, ints)
 
-module _ (query : Query) (tables : Tables) (columns : List WorldColumn) (best : Option ℤ) (part : ℕ) where
+module _ (query : Query) (tables : Tables) (columns : List WorldColumn) (fit : IsWellFormed query) (best : Option ℤ) (part : ℕ) where
   -- a tree in which nothing is wrong is done and closes
   pub tree_right : (tree : Tree) (sides : List Bounds) (place : ℕ) → AreSides sides → in_tree query tables columns best tree sides part place ≡ Ok tt → (is_done tree ≡ true) × Closes (cost_at query tables columns) best tree sides
   tree_right (closed leaf.Pending) sides place all right = cc
@@ -105,7 +106,7 @@ module _ (query : Query) (tables : Tables) (columns : List WorldColumn) (best : 
       let fixed = unless_ok (not (have_two sides)) reject.NotFixed part place (first_ok alone _ right) in
       let told = asked_ok (judged_at query tables columns (lows sides)) (λ value. unless (not (beats best value)) reject.FixedBeats part place) tt (next_ok alone _ right) in
       let beaten = unless_ok (not (beats best told.0)) reject.FixedBeats part place told.2 in
-      (refl, (fixed_of_test sides all (not-true _ fixed), subst (NoBetter best) (sym (agree query tables columns (lows sides) told.0 told.1)) (no_better best told.0 (not-true _ beaten))))
+      (refl, (fixed_of_test sides all (not-true _ fixed), subst (NoBetter best) (sym (agree query tables columns fit (lows sides) told.0 told.1)) (no_better best told.0 (not-true _ beaten))))
   tree_right (split column at reason low high) sides place all right =
       let parts = unless (is_parted sides column at) reject.WrongSplit part place in
       let in_low = in_tree query tables columns best low (low_box sides column at) part (place + 1) in
@@ -116,12 +117,12 @@ module _ (query : Query) (tables : Tables) (columns : List WorldColumn) (best : 
       let other = tree_right high (high_box sides column at) (place + 1 + length (preorder low)) (sides_high sides column at all parted) (next_ok in_low in_high rest) in
       (and_from (is_done low) (is_done high) one.0 other.0, (parted, one.1, other.1))
 
-  -- and nothing is wrong in a tree that is done and closes, where no value is too large
+  -- and nothing is wrong in a tree that is done and closes, where no world is at fault
   pub right_tree : (tree : Tree) (sides : List Bounds) (place : ℕ) → is_done tree ≡ true → Closes (cost_at query tables columns) best tree sides → NoFault (judged_at query tables columns) tree sides → in_tree query tables columns best tree sides part place ≡ Ok tt
   right_tree (closed leaf.Pending) sides place done closes sound = absurd cc
   right_tree (closed leaf.Fixed) sides place done closes sound =
       let told = sound_ok (judged_at query tables columns (lows sides)) sound in
-      let none : NoBetter best told.0 = subst (NoBetter best) (agree query tables columns (lows sides) told.0 told.1) closes.1 in
+      let none : NoBetter best told.0 = subst (NoBetter best) (agree query tables columns fit (lows sides) told.0 told.1) closes.1 in
       both_ok (unless (not (have_two sides)) reject.NotFixed part place) _
       (holds_ok (not (have_two sides)) reject.NotFixed part place (ap not (test_of_fixed sides closes.0)))
       (ok_asked (judged_at query tables columns (lows sides)) (λ value. unless (not (beats best value)) reject.FixedBeats part place) told.0 tt told.1

@@ -14,7 +14,6 @@ use Rattle.answer_text.specs.declared.answer.Verdict.TheVariants as verdict
 use Rattle.answer_text.specs.declared.answer.WorldText.{WorldText}
 use Rattle.world_def.specs.Columns.{Tables}
 use Rattle.world_points.specs.Points.{root}
-use Rattle.cert_check.specs.declared.fault.CheckFault.TheVariants as fault
 use Rattle.cert_check.specs.declared.fault.Reject.TheVariants as reject
 use Rattle.cert_check.specs.Reasons.{Outcome, ◌>>◌, OrElse, unless, is_finished, has_no_program, have_two, is_the_part, in_part, of_row, IsOfVerdict, IsOutcome, TellsFirst}
 use Rattle.cert_check.specs.Checks.{TellsOutcome, TellsOptimal, IsOptimalOutcome, of_part}
@@ -47,9 +46,7 @@ module _ (query : Query) (tables : Tables) (columns : List WorldColumn) (answer 
 
     pub tells_optimal : (outcome : Outcome) → TellsOptimal query tables columns objective worlds parts outcome → TellsFirst query tables columns answer outcome
     tells_optimal (Ok x) of = optimal_of (Ok tt) of
-    tells_optimal (Err fault.Memory) of = tt
-    tells_optimal (Err (fault.Wide source number)) of = optimal_of (Err (fault.Wide source number)) of
-    tells_optimal (Err (fault.Rejected reason part node)) of = optimal_of (Err (fault.Rejected reason part node)) of
+    tells_optimal (Err told) of = λ other. optimal_of (Err told) (of other)
 
   module _ (row : ℕ) (is : answer.verdict ≡ verdict.FalseRow row) where
     row_of : (outcome : Outcome) → of_row query tables columns row ≡ outcome → IsOutcome query tables columns answer outcome
@@ -57,9 +54,7 @@ module _ (query : Query) (tables : Tables) (columns : List WorldColumn) (answer 
 
     pub tells_row : (outcome : Outcome) → TellsOutcome (of_row query tables columns row) outcome → TellsFirst query tables columns answer outcome
     tells_row (Ok x) of = row_of (Ok tt) of
-    tells_row (Err fault.Memory) of = tt
-    tells_row (Err (fault.Wide source number)) of = row_of (Err (fault.Wide source number)) of
-    tells_row (Err (fault.Rejected reason part node)) of = row_of (Err (fault.Rejected reason part node)) of
+    tells_row (Err told) of = λ other. row_of (Err told) (of other)
 
   module _ (part : PartAnswer) (is : answer.verdict ≡ verdict.NoWorld part) (whole : IsPart part) where
     no_world_of : (outcome : Outcome) → (tree : Tree) → part.tree ≡ preorder tree → of_part query tables columns part tree ≡ outcome → IsOutcome query tables columns answer outcome
@@ -74,6 +69,4 @@ module _ (query : Query) (tables : Tables) (columns : List WorldColumn) (answer 
 
     pub tells_no_world : (outcome : Outcome) → ((tree : Tree) → part.tree ≡ preorder tree → TellsOutcome (of_part query tables columns part tree) outcome) → TellsFirst query tables columns answer outcome
     tells_no_world (Ok x) of = no_world_of (Ok tt) whole.tree.0 (sym whole.tree.1) (of whole.tree.0 (sym whole.tree.1))
-    tells_no_world (Err fault.Memory) of = tt
-    tells_no_world (Err (fault.Wide source number)) of = no_world_of (Err (fault.Wide source number)) whole.tree.0 (sym whole.tree.1) (of whole.tree.0 (sym whole.tree.1))
-    tells_no_world (Err (fault.Rejected reason number node)) of = no_world_of (Err (fault.Rejected reason number node)) whole.tree.0 (sym whole.tree.1) (of whole.tree.0 (sym whole.tree.1))
+    tells_no_world (Err told) of = λ other. no_world_of (Err told) whole.tree.0 (sym whole.tree.1) (of whole.tree.0 (sym whole.tree.1) other)

@@ -1,5 +1,5 @@
 -- What the parts of a check tell.
-use Rattle.std.specs.Prelude.{◌≡◌, ℤ, ◌&&◌, List, Option, None, Result, Ok, Err}
+use Rattle.std.specs.Prelude.{◌≡◌, ◌≢◌, ℤ, ◌&&◌, List, Option, None, Result, Ok, Err}
 use Rattle.std.specs.List.{AllZip}
 use Rattle.tiql_query.specs.declared.query.Query.{Query}
 use Rattle.tiql_query.specs.declared.world_column.WorldColumn.{WorldColumn}
@@ -7,10 +7,10 @@ use Rattle.branch_tree.specs.Tree.{Tree, preorder}
 use Rattle.answer_text.specs.declared.answer.PartAnswer.{PartAnswer}
 use Rattle.answer_text.specs.declared.answer.WorldText.{WorldText}
 use Rattle.world_def.specs.declared.fault.EvalFault.{EvalFault}
-use Rattle.world_def.specs.declared.fault.EvalFault.TheVariants as eval
 use Rattle.world_def.specs.declared.world.World.{World}
 use Rattle.world_def.specs.Columns.{Tables}
 use Rattle.world_points.specs.Points.{root}
+use Rattle.cert_check.specs.Faults.{asking}
 use Rattle.cert_check.specs.declared.fault.CheckFault.{CheckFault}
 use Rattle.cert_check.specs.declared.fault.CheckFault.TheVariants as fault
 use Rattle.cert_check.specs.declared.fault.Reject.TheVariants as reject
@@ -19,16 +19,17 @@ use Rattle.cert_check.specs.Reasons.{Outcome, ◌>>◌, unless, have_two, is_the
 -- what is told is the outcome, unless memory ran out
 abbrev pub TellsOutcome : Outcome → Outcome → Type 0
 TellsOutcome outcome (Ok x) = outcome ≡ Ok tt
-TellsOutcome outcome (Err fault.Memory) = Unit {0}
-TellsOutcome outcome (Err (fault.Wide source number)) = outcome ≡ Err (fault.Wide source number)
-TellsOutcome outcome (Err (fault.Rejected reason part node)) = outcome ≡ Err (fault.Rejected reason part node)
+TellsOutcome outcome (Err told) = told ≢ fault.Memory → outcome ≡ Err told
+
+-- likewise of a cost
+abbrev pub TellsCost : Result ℤ CheckFault → Result ℤ CheckFault → Type 0
+TellsCost outcome (Ok cost) = outcome ≡ Ok cost
+TellsCost outcome (Err told) = told ≢ fault.Memory → outcome ≡ Err told
 
 -- what is told is what the asking comes to, unless memory ran out
 abbrev pub Judges : Result (Option ℤ) EvalFault → Result (Option ℤ) CheckFault → Type 0
 Judges outcome (Ok value) = outcome ≡ Ok value
-Judges outcome (Err fault.Memory) = Unit {0}
-Judges outcome (Err (fault.Wide source number)) = outcome ≡ Err (eval.Wide source number)
-Judges outcome (Err (fault.Rejected reason part node)) = ⊥
+Judges outcome (Err told) = told ≢ fault.Memory → asking outcome ≡ Err told
 
 -- what an impossible answer with a part comes to
 abbrev pub of_part : Query → Tables → List WorldColumn → PartAnswer → Tree → Outcome
@@ -44,8 +45,5 @@ pub record IsOptimalOutcome (query : Query) (tables : Tables) (columns : List Wo
 -- what is told of an optimal answer is what it comes to, unless memory ran out
 abbrev pub TellsOptimal : Query → Tables → List WorldColumn → ℤ → List WorldText → List PartAnswer → Outcome → Type 0
 TellsOptimal query tables columns objective worlds parts (Ok x) = IsOptimalOutcome query tables columns objective worlds parts (Ok tt)
-TellsOptimal query tables columns objective worlds parts (Err fault.Memory) = Unit {0}
-TellsOptimal query tables columns objective worlds parts (Err (fault.Wide source number)) =
-    IsOptimalOutcome query tables columns objective worlds parts (Err (fault.Wide source number))
-TellsOptimal query tables columns objective worlds parts (Err (fault.Rejected reason part node)) =
-    IsOptimalOutcome query tables columns objective worlds parts (Err (fault.Rejected reason part node))
+TellsOptimal query tables columns objective worlds parts (Err told) =
+    told ≢ fault.Memory → IsOptimalOutcome query tables columns objective worlds parts (Err told)

@@ -1,5 +1,5 @@
--- The first reason for which an answer is refused, with its part and node, or the first value that is too large in a world that is judged.
-use Rattle.std.specs.Prelude.{◌≡◌, ◌+◌, ℕ, ℤ, ◌==◌, Bool, true, false, not, ◌&&◌, List, [], ◌∷◌, length, Option, Some, None, is_none, slice_get, Result, Ok, Err, int_le, int_lt, nat_lt, bytes_eq}
+-- The first reason for which an answer is refused, with its part and node, or the fault of a world that is judged before a reason comes.
+use Rattle.std.specs.Prelude.{◌≡◌, ◌≢◌, ◌+◌, ℕ, ℤ, ◌==◌, Bool, true, false, not, ◌&&◌, List, [], ◌∷◌, length, Option, Some, None, is_none, slice_get, Result, Ok, Err, int_le, int_lt, nat_lt, bytes_eq}
 use Rattle.std.specs.List.{AllZip, list_any}
 use Rattle.std.specs.Ordering.{int_eq}
 use Rattle.base_kit.specs.Asking.{and_then}
@@ -19,7 +19,7 @@ use Rattle.answer_text.specs.declared.answer.Verdict.TheVariants as verdict
 use Rattle.answer_text.specs.declared.answer.WorldText.{WorldText}
 use Rattle.world_def.specs.declared.world.World.{World}
 use Rattle.world_def.specs.Columns.{Tables}
-use Rattle.world_def.specs.Judging.{broken_from, score_asked}
+use Rattle.world_def.specs.Judging as judging
 use Rattle.world_def.specs.Meaning.{IsPossible}
 use Rattle.world_points.specs.Points.{judged_at, root, cost}
 use Rattle.cert_check.specs.Faults.{asking}
@@ -109,14 +109,15 @@ is_finished (verdict.Unfinished nodes parts) = false
 abbrev pub has_no_program : Answer → Bool
 has_no_program answer = answer.columns == 0 && answer.rows == 0 && answer.formulas == 0
 
+-- the cost of a world with this score, if it has one: it does not meet, or the objective is not its score
+abbrev pub cost_for : Query → ℤ → Option ℤ → Result ℤ CheckFault
+cost_for query objective None = Err (fault.Rejected reject.WorldBreaks 0 0)
+cost_for query objective (Some score) = and_then (unless (int_eq objective score) reject.WrongObjective 0 0) (λ right. Ok (cost query.aim score))
+
 module _ (query : Query) (tables : Tables) where
-  -- the cost of an optimal answer's world: it does not meet, or the objective is not its score
+  -- the cost of an optimal answer's world
   unfoldable pub cost_of : ℤ → World → Result ℤ CheckFault
-  cost_of objective world =
-      and_then (asking (broken_from tables world 1 query.requires_)) (λ broken.
-      and_then (unless (is_none broken) reject.WorldBreaks 0 0) (λ meets.
-      and_then (asking (score_asked tables world query.aim)) (λ score.
-      and_then (unless (int_eq objective score) reject.WrongObjective 0 0) (λ right. Ok (cost query.aim score)))))
+  cost_of objective world = and_then (asking (judging.judged query tables world)) (cost_for query objective)
 
   -- the sections give a possible world, or none
   abbrev pub Give : List WorldText → Option World → Type 0
@@ -131,7 +132,7 @@ module _ (query : Query) (tables : Tables) where
   IsGiven (verdict.Unfinished nodes parts) given = given ≡ None
 
 module _ (query : Query) (tables : Tables) (columns : List WorldColumn) where
-  -- at a leaf: an open one, a box with two points, a world with a value that is too large, or a world that beats the best value
+  -- at a leaf: an open one, a box with two points, a world that is at fault, or a world that beats the best value
   abbrev pub at_leaf : Option ℤ → Leaf → List Bounds → ℕ → ℕ → Outcome
   at_leaf best leaf.Pending sides part node = Err (fault.Rejected reject.OpenNode part node)
   at_leaf best leaf.Fixed sides part node =
@@ -199,6 +200,4 @@ module _ (query : Query) (tables : Tables) (columns : List WorldColumn) where
   -- what is told of an answer is what a check comes to, unless memory ran out
   abbrev pub TellsFirst : Answer → Outcome → Type 0
   TellsFirst answer (Ok x) = IsOutcome answer (Ok tt)
-  TellsFirst answer (Err fault.Memory) = Unit {0}
-  TellsFirst answer (Err (fault.Wide source number)) = IsOutcome answer (Err (fault.Wide source number))
-  TellsFirst answer (Err (fault.Rejected reason part node)) = IsOutcome answer (Err (fault.Rejected reason part node))
+  TellsFirst answer (Err told) = told ≢ fault.Memory → IsOutcome answer (Err told)

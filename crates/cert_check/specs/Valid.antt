@@ -39,7 +39,7 @@ pub record IsValidOptimal (query : Query) (tables : Tables) (columns : List Worl
   pub given : IsWorldOf query tables worlds world
   pub possible : IsPossible query tables world
   pub meets : Meets query tables world
-  pub value : objective ≡ score query.aim tables world
+  pub value : objective ≡ score query tables world
   pub closed : AreClosedFor query tables columns (Some (cost query.aim objective)) (position has_two (root columns)) parts
 
 -- an impossible answer with a false row: no column has two values, and the one possible world does not meet
@@ -70,18 +70,18 @@ pub record IsValid (query : Query) (tables : Tables) (columns : List WorldColumn
 -- what an answer says is right: its world is the best one, and its objective is that world's score, or no world meets
 abbrev pub IsRight : Query → Tables → Verdict → Type 0
 IsRight query tables (verdict.Optimal objective worlds parts) =
-    (world : World) × IsWorldOf query tables worlds world × IsBest query tables world × (objective ≡ score query.aim tables world)
+    (world : World) × IsWorldOf query tables worlds world × IsBest query tables world × (objective ≡ score query tables world)
 IsRight query tables (verdict.FalseRow row) = NoneMeets query tables
 IsRight query tables (verdict.NoWorld part) = NoneMeets query tables
 IsRight query tables (verdict.Unfinished nodes parts) = ⊥
 
 module _ (query : Query) (tables : Tables) (columns : List WorldColumn) where
-  -- no value is too large in the worlds of the leaves of a part
+  -- no world of a leaf of a part is at fault
   abbrev pub IsSoundPart : PartAnswer → Type 0
   IsSoundPart part = (tree : Tree) → part.tree ≡ preorder tree → NoFault (judged_at query tables columns) tree (root columns)
 
-  -- no value is too large in any world that a check of the answer judges: the one of its sections, those of the leaves, and the one world where no column
-  -- has two values
+  -- no world that a check of the answer judges is at fault: the one of its sections, those of the leaves, and the one world where no column has two
+  -- values
   abbrev pub NoFaults : Verdict → Type 0
   NoFaults (verdict.Optimal objective worlds parts) =
       ((world : World) → IsWorldOf query tables worlds world → IsSound (judged query tables world)) × All IsSoundPart parts

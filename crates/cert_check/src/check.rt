@@ -1,6 +1,6 @@
 //! The check of an answer: whether it is valid, or its first reason.
 
-ghost use Rattle.std.specs.Prelude.{◌≡◌, ◌<◌, Ok, List, IfOk, MatchResult, ⊤, length};
+ghost use Rattle.std.specs.Prelude.{◌≡◌, ◌≤◌, ◌<◌, ◌^◌, unsigned_abs, Ok, Some, List, IfOk, MatchResult, ⊤, length};
 ghost use Rattle.std.specs.List.{AllZip};
 ghost use Rattle.answer_text.specs.Answers.{IsAnswer};
 ghost use Rattle.branch_tree.specs.Tree.{Tree, preorder};
@@ -23,13 +23,13 @@ use base_kit::List;
 use ip_rows::Bounds;
 use std::alloc::Global;
 use tiql_query::{Query, WorldColumn};
-use world_def::{Tables, World, meets, score};
+use world_def::{Tables, World, score_met};
 use world_points::{cost, sides_of};
 
-/// Checks an answer to a query over its tables: nothing where it is valid, else its first reason, or the first value that
-/// is too large in a world that is judged before a reason comes (docs/ANSWERS.md).
+/// Checks an answer to a query over its tables: nothing where it is valid, else its first reason, or the first fault of a
+/// world that is judged before a reason comes, a value that is too large or a view with too many rows (docs/ANSWERS.md).
 ///
-/// The query is well formed and has no view, the tables are its own, the columns are those of `world_columns` for them, and
+/// The query is well formed, the tables are its own, the columns are those of `world_columns` for them, and
 /// the answer is one that was read.
 pub fn check_listed(
     alloc: Global,
@@ -45,11 +45,11 @@ pub fn check_listed(
     requires fit { IsWellFormed query.now }
     requires answer { IsAnswer answer.now }
 
-    // The first reason is told, with its part and node, and so is a value that is too large.
+    // The first reason is told, with its part and node, and so is the fault of a world.
     ensures reason { spec.TellsFirst query.now tables.now columns.now answer.now result }
 
-    // An answer that is accepted is valid, and a valid one is accepted where no judged world has a value that is too large,
-    // unless memory runs out.
+    // An answer that is accepted is valid, and a valid one is accepted where no judged world is at fault, unless memory
+    // runs out.
     ensures valid { IfOk result (λ _. IsValid query.now tables.now columns.now answer.now) }
     ensures accepted { IsValid query.now tables.now columns.now answer.now → NoFaults query.now tables.now columns.now answer.now.verdict
         → MatchResult result (λ _. ⊤) (λ fault. fault ≡ CheckFault.Memory) }
@@ -131,22 +131,39 @@ fn check_optimal(
     let Some(world) = subject.given(alloc, worlds)? else {
         return need(false, Reject::WrongWorld);
     };
-    let best = check_world(subject, objective, &world)?;
+    let best = check_world(alloc, subject, objective, &world)?;
     check_parts(alloc, subject, Some(best), parts)
 }
 
 /// Checks that a world meets and has the objective as its score. It gives the world's cost.
 #[tactic(auto, unfolding(crate::specs::Reasons::cost_of))]
-fn check_world(subject: &Subject, objective: i64, world: &World) -> Result<i128, CheckFault>
+fn check_world(
+    alloc: Global,
+    subject: &Subject,
+    objective: i64,
+    world: &World,
+) -> Result<i128, CheckFault>
     requires subject { IsSubject subject.now.query.now subject.now.tables.now subject.now.columns.now }
     requires small { IsSmallWorld subject.now.tables.now world.now }
-    ensures { result ≡ spec.cost_of subject.now.query.now subject.now.tables.now objective world.now }
+    ensures { told.TellsCost (spec.cost_of subject.now.query.now subject.now.tables.now objective world.now) result }
 {
-    let broken = meets(subject.query, subject.tables, world)?;
-    need(broken.is_none(), Reject::WorldBreaks)?;
-    let value = score(subject.query, subject.tables, world)?;
-    need(i128::from(objective) == value, Reject::WrongObjective)?;
-    Ok(cost(&subject.query.aim, value))
+    match score_met(alloc, subject.query, subject.tables, world)? {
+        Some(score) => cost_for(subject.query, objective, score),
+        None => Err(CheckFault::Rejected {
+            reason: Reject::WorldBreaks,
+            part: 0,
+            node: 0,
+        }),
+    }
+}
+
+/// Checks that the objective is a world's score. It gives the world's cost.
+fn cost_for(query: &Query, objective: i64, score: i128) -> Result<i128, CheckFault>
+    requires { unsigned_abs score ≤ 10 ^ 17 }
+    ensures { result ≡ spec.cost_for query.now objective (Some score) }
+{
+    need(i128::from(objective) == score, Reject::WrongObjective)?;
+    Ok(cost(&query.aim, score))
 }
 
 /// Checks an impossible answer with a row.

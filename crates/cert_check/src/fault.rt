@@ -9,7 +9,6 @@ use base_kit::Memory;
 use thiserror::Error;
 use tiql_query::Source;
 use world_def::EvalFault;
-use world_points::PointFault;
 
 /// A reason for which an answer is refused, in the order in which they are tried (docs/ANSWERS.md).
 #[derive(Clone, Copy, Debug, PartialEq, Eq)]
@@ -54,10 +53,18 @@ pub enum CheckFault {
     /// A world that has to be judged has a value of more than 10^17 in size (docs/MEANING.md, "The number told").
     #[error("a value passes 10^17 in size")]
     Wide {
-        /// The relation whose condition or goal asked for it.
+        /// The view in whose select it came, or the relation whose condition or goal asked for it.
         source: Source,
         /// The value.
         number: i128,
+    },
+    /// In a world that has to be judged a view has too many rows, or too many combinations of rows come up for it.
+    #[error("there are more than {limit} rows")]
+    TooManyRows {
+        /// The number of the view, from 0.
+        view: u32,
+        /// 10,000,000 combinations, or 200,000 rows.
+        limit: u32,
     },
     /// Memory ran out.
     #[error("out of memory")]
@@ -73,22 +80,13 @@ impl From<Memory> for CheckFault {
 }
 
 impl From<EvalFault> for CheckFault {
-    ghost from_gives = { λ wide told. told ≡ spec.as_told wide };
+    ghost from_gives = { λ cause told. told ≡ spec.as_told cause };
 
-    fn from(wide: EvalFault) -> CheckFault {
-        match wide {
-            EvalFault::Wide { source, number } => CheckFault::Wide { source, number },
-        }
-    }
-}
-
-impl From<PointFault> for CheckFault {
-    ghost from_gives = { λ cause told. told ≡ spec.of_point cause };
-
-    fn from(cause: PointFault) -> CheckFault {
+    fn from(cause: EvalFault) -> CheckFault {
         match cause {
-            PointFault::Eval(wide) => CheckFault::from(wide),
-            PointFault::Memory => CheckFault::Memory,
+            EvalFault::Wide { source, number } => CheckFault::Wide { source, number },
+            EvalFault::TooManyRows { view, limit } => CheckFault::TooManyRows { view, limit },
+            EvalFault::Memory => CheckFault::Memory,
         }
     }
 }

@@ -85,34 +85,34 @@ few_decls bytes tree spelled =
     let same : length tree.decls ≡ length texts = ap (λ (t : Tree). length t.decls) spelled.gives ∙ laid_many 0 (λ (d : DeclText). length (decl_words d)) decl_tree texts places in
     omega (arith, tokens, words, parts, each, same)
 
--- ---- a query has no more hypothetical tables and requirements than its tree has declarations
+-- ---- a query has no more hypothetical tables, requirements and views than its tree has declarations
 
 abbrev IsMore : Known → Known → ℕ → Type 0
-IsMore before after count = (length after.query.hypos ≤ length before.query.hypos + count) × (length after.query.requires_ ≤ length before.query.requires_ + count)
+IsMore before after count = (length after.query.hypos ≤ length before.query.hypos + count) × (length after.query.requires_ ≤ length before.query.requires_ + count) × (length after.query.views ≤ length before.query.views + count)
 
 one_more : (before after : Known) (decl : Decl) → with_decl before decl ≡ Ok after → IsMore before after 1
 unfolding with_decl
 one_more before after (decls.Table tree) e =
     let it = came_of (checked_table before tree) (λ table. Ok (with_table before table)) after e in
-    subst (λ (k : Known). IsMore before k 1) (same_Ok (with_table before it.0) after it.2) (omega arith, omega arith)
+    subst (λ (k : Known). IsMore before k 1) (same_Ok (with_table before it.0) after it.2) (omega arith, omega arith, omega arith)
 one_more before after (decls.Hypo tree) e =
     let it = came_of (checked_hypo before tree) (λ hypo. Ok (with_hypo before hypo)) after e in
-    subst (λ (k : Known). IsMore before k 1) (same_Ok (with_hypo before it.0) after it.2) (omega (arith, length-append before.query.hypos (it.0 ∷ [])), omega arith)
+    subst (λ (k : Known). IsMore before k 1) (same_Ok (with_hypo before it.0) after it.2) (omega (arith, length-append before.query.hypos (it.0 ∷ [])), omega arith, omega arith)
 one_more before after (decls.View tree) e =
     let it = came_of (checked_view before tree) (λ view. Ok (with_view before view)) after e in
-    subst (λ (k : Known). IsMore before k 1) (same_Ok (with_view before it.0) after it.2) (omega arith, omega arith)
+    subst (λ (k : Known). IsMore before k 1) (same_Ok (with_view before it.0) after it.2) (omega arith, omega arith, omega (arith, length-append before.query.views (it.0 ∷ [])))
 one_more before after (decls.Require tree) e =
     let it = came_of (checked_require before tree) (λ require. Ok (with_require before require)) after e in
-    subst (λ (k : Known). IsMore before k 1) (same_Ok (with_require before it.0) after it.2) (omega arith, omega (arith, length-append before.query.requires_ (it.0 ∷ [])))
+    subst (λ (k : Known). IsMore before k 1) (same_Ok (with_require before it.0) after it.2) (omega arith, omega (arith, length-append before.query.requires_ (it.0 ∷ [])), omega arith)
 
 all_more : (decls : List Decl) (before after : Known) → in_turn with_decl before decls ≡ Ok after → IsMore before after (length decls)
 unfolding in_turn
-all_more [] before after e = subst (λ (k : Known). IsMore before k 0) (same_Ok before after e) (omega arith, omega arith)
+all_more [] before after e = subst (λ (k : Known). IsMore before k 0) (same_Ok before after e) (omega arith, omega arith, omega arith)
 all_more (decl ∷ decls) before after e =
     let one = came_of (with_decl before decl) (λ next. in_turn with_decl next decls) after e in
     let step = one_more before one.0 decl one.1 in
     let more = all_more decls one.0 after one.2 in
-    (omega (arith, step.0, more.0), omega (arith, step.1, more.1))
+    (omega (arith, step.0, more.0), omega (arith, step.1, more.1), omega (arith, step.2, more.2))
 
 -- ---- and its tables have columns
 
@@ -184,15 +184,15 @@ decls_wide size (text ∷ texts) places = and_from (has_columns (decl_tree place
 
 -- ---- so it is of the query of a text
 
-pub few_declared : (bytes : List ℕ) (tree : Tree) (query : Query) → Spelled bytes tree → Sound tree query → (length query.hypos ≤ length bytes) × (length query.requires_ ≤ length bytes)
+pub few_declared : (bytes : List ℕ) (tree : Tree) (query : Query) → Spelled bytes tree → Sound tree query → (length query.hypos ≤ length bytes) × (length query.requires_ ≤ length bytes) × (length query.views ≤ length bytes)
 unfolding Sound checked
 few_declared bytes tree query spelled sound =
     let known = came_of (in_turn with_decl nothing tree.decls) (λ known. checked_goal known tree.goal >>= (λ aim. Ok (record known.query { aim = aim }))) query sound in
     let aim = came_of (checked_goal known.0 tree.goal) (λ aim. Ok (record (known.0).query { aim = aim })) query known.2 in
     let more = all_more tree.decls nothing known.0 known.1 in
     let few = few_decls bytes tree spelled in
-    subst (λ (q : Query). (length q.hypos ≤ length bytes) × (length q.requires_ ≤ length bytes)) (same_Ok (record (known.0).query { aim = aim.0 }) query aim.2)
-    (omega (arith, more.0, few), omega (arith, more.1, few))
+    subst (λ (q : Query). (length q.hypos ≤ length bytes) × (length q.requires_ ≤ length bytes) × (length q.views ≤ length bytes)) (same_Ok (record (known.0).query { aim = aim.0 }) query aim.2)
+    (omega (arith, more.0, few), omega (arith, more.1, few), omega (arith, more.2, few))
 
 pub wide_declared : (bytes : List ℕ) (tree : Tree) (query : Query) → Spelled bytes tree → Sound tree query → All (λ table. 0 < length table.columns) query.tables
 unfolding Sound checked query_tree

@@ -23,15 +23,16 @@ use Rattle.job_intake.specs.declared.refusal.Refusal.{Refusal}
 use Rattle.job_intake.specs.declared.refusal.Refusal.TheVariants as refusal
 use Rattle.job_intake.specs.declared.refusal.FileFault.{FileFault}
 use Rattle.job_intake.specs.declared.refusal.FileFault.TheVariants as fault
-use Rattle.job_intake.specs.Asking.{TreeComes, QueryComes, BuiltComes, AskComes}
+use Rattle.job_intake.specs.Asking.{TreeComes, QueryComes, AskComes}
 use Rattle.job_intake.specs.Bounding.{BoundComes, LimitComes, refused_bounds}
 use Rattle.job_intake.specs.Files.{FileStops, FileComes}
 use Rattle.job_intake.specs.Jobs.{JobComes, Finished, Loaded, Opened, WordsCome, Comes}
 use Rattle.job_intake.specs.Loading.{ReadComes, TableComes, AreLoaded, LoadComes}
 use Rattle.job_intake.specs.Steps.{Then}
-use Rattle.job_intake.specs.Tasks.{IsUnreadable, AnswerComes, TaskComes}
+use Rattle.job_intake.specs.Tasks.{IsUnreadable, AnswerComes, CheckComes, EvaluateComes, TextComes, TaskComes}
+use Rattle.job_intake.specs.declared.job.Task.{Task}
 use Rattle.job_intake.specs.Visits.{Visit, Holds, IsFailed, IsTold, after_fetches, later_by}
-use Rattle.job_intake.specs.Words.{Command, Form, solve, check, table_path}
+use Rattle.job_intake.specs.Words.{Command, Form, solve, check, evaluate, table_path}
 use Rattle.job_intake.proofs.Steps.{IsOne, then_one}
 
 words_one : (words : List (List ℕ)) → IsOne (WordsCome words)
@@ -108,14 +109,8 @@ query_one tree (Ok a) (Err w) x y = absurd (not_both tree a y.0 x y.3)
 query_one tree (Err w) (Ok b) x y = absurd (not_both tree b x.0 y x.3)
 query_one tree (Err w) (Err u) x y = ap (λ why. Err why) (x.1 ∙ ap (λ (f : SoundFault). refusal.Unsound f) (same_rule tree x.0 y.0 x.3 y.3) ∙ sym y.1)
 
-built_one : (name : List ℕ) (query : Query) → IsOne (BuiltComes name query)
-built_one name query (Ok a) (Ok b) x y = ap (λ q. Ok q) (x.0 ∙ sym y.0)
-built_one name query (Ok a) (Err w) x y = absurd (let e = ap length x.1 in omega (arith, e, y.1))
-built_one name query (Err w) (Ok b) x y = absurd (let e = ap length y.1 in omega (arith, e, x.1))
-built_one name query (Err w) (Err u) x y = ap (λ why. Err why) (x.0 ∙ sym y.0)
-
-ask_one : (name bytes : List ℕ) → IsOne (AskComes name bytes)
-ask_one name bytes = then_one (TreeComes bytes) (λ tree. Then (QueryComes tree) (BuiltComes name)) (tree_one bytes) (λ tree. then_one (QueryComes tree) (BuiltComes name) (query_one tree) (λ query. built_one name query))
+ask_one : (bytes : List ℕ) → IsOne (AskComes bytes)
+ask_one bytes = then_one (TreeComes bytes) QueryComes (tree_one bytes) query_one
 
 read_one : (table : QTable) (bytes : List ℕ) → IsOne (ReadComes table bytes)
 read_one table bytes (Ok a) (Ok b) x y = ap (λ r. Ok r) (table_one bytes table a b x y)
@@ -140,10 +135,10 @@ same_line bytes one other a b = by_order (cases_lt one other) (cases_lt other on
     by_order (inr le) (inl lt) = absurd (none_apart (λ e. omega (arith, lt, e)))
     by_order (inr le) (inr ge) = omega (arith, le, ge)
 
-answer_one : (bytes : List ℕ) → IsOne (AnswerComes bytes)
-answer_one bytes (Ok a) (Ok b) x y = ap (λ t. Ok t) (x.1 ∙ ap (λ (answer : Answer). task.Check answer) (one_answer x.0 y.0 bytes x.2 y.2) ∙ sym y.1)
-answer_one bytes (Ok a) (Err w) x y = absurd (y.2.none x.0 x.2)
-answer_one bytes (Err w) (Ok b) x y = absurd (x.2.none y.0 y.2)
+answer_one : (bytes : List ℕ) → IsOne (TextComes bytes)
+answer_one bytes (Ok a) (Ok b) x y = ap (λ t. Ok t) (one_answer a b bytes x y)
+answer_one bytes (Ok a) (Err w) x y = absurd (y.2.none a x)
+answer_one bytes (Err w) (Ok b) x y = absurd (x.2.none b y)
 answer_one bytes (Err w) (Err u) x y = ap (λ why. Err why) (x.1 ∙ ap refusal.Unreadable (same_line bytes x.0 y.0 x.2 y.2) ∙ sym y.1)
 
 some_later : (fails : Failures) → IsSome fails → IsSome (later fails)
@@ -219,14 +214,23 @@ module _ (folder : List ℕ) where
       not_refused (after_fetches (length x.before) v) (told_after (length x.before) v is) x.table there.0 w there.1 x.refused)
   load_one v is tables (Err w) (Err u) x y = ap (λ why. Err why) (one_refused v is x.before y.before x.table y.table x.behind y.behind x.made y.made w u (sym x.are ∙ y.are) x.loaded y.loaded x.refused y.refused)
 
+given_one : (v : Visit) → IsTold v → (name : List ℕ) → IsOne (AnswerComes v name)
+given_one v is name = then_one (FileComes v 536870912 name) TextComes (file_one v is 536870912 name) answer_one
+
 task_is : (v : Visit) → IsTold v → (command : Command) → IsOne (TaskComes v command)
 task_is v is (solve nodes) = λ one other x y. x ∙ sym y
-task_is v is (check name) = then_one (FileComes v 536870912 name) AnswerComes (file_one v is 536870912 name) answer_one
+task_is v is (check name) = then_one (AnswerComes v name) CheckComes (given_one v is name) (λ answer one other x y. x ∙ sym y)
+task_is v is (evaluate name) = then_one (AnswerComes v name) EvaluateComes (given_one v is name) (λ answer one other x y. x ∙ sym y)
+
+limit_is : (task : Task) (columns : List WorldColumn) → IsOne (LimitComes task columns)
+limit_is (task.Solve nodes) columns = λ one other x y. x ∙ sym y
+limit_is (task.Check answer) columns = λ one other x y. x ∙ sym y
+limit_is (task.Evaluate answer) columns = λ one other x y. x ∙ sym y
 
 finished_one : (v : Visit) → IsTold v → (command : Command) (query : Query) (tables : Tables) (columns : List WorldColumn) → IsOne (Finished v command query tables columns)
 finished_one v is command query tables columns =
-    then_one (TaskComes v command) (λ task. Then (LimitComes columns) (JobComes query tables columns task)) (task_is v is command)
-    (λ task. then_one (LimitComes columns) (JobComes query tables columns task) (λ one other x y. x ∙ sym y) (λ u one other x y. x ∙ sym y))
+    then_one (TaskComes v command) (λ task. Then (LimitComes task columns) (JobComes query tables columns task)) (task_is v is command)
+    (λ task. then_one (LimitComes task columns) (JobComes query tables columns task) (limit_is task columns) (λ u one other x y. x ∙ sym y))
 
 all_loaded_one : (v : Visit) → IsTold v → (folder : List ℕ) (command : Command) (query : Query) → IsOne (Loaded v folder command query)
 all_loaded_one v is folder command query =
@@ -238,8 +242,8 @@ module _ (v : Visit) (is : IsTold v) where
   opened_one : (form : Form) → IsOne (Opened v form)
   opened_one form =
       let next = after_fetches 1 v in
-      then_one (FileComes v 16777216 form.0) (λ bytes. Then (AskComes form.0 bytes) (Loaded next form.1 form.2)) (file_one v is 16777216 form.0)
-      (λ bytes. then_one (AskComes form.0 bytes) (Loaded next form.1 form.2) (ask_one form.0 bytes) (λ query. all_loaded_one next (told_after 1 v is) form.1 form.2 query))
+      then_one (FileComes v 16777216 form.0) (λ bytes. Then (AskComes bytes) (Loaded next form.1 form.2)) (file_one v is 16777216 form.0)
+      (λ bytes. then_one (AskComes bytes) (Loaded next form.1 form.2) (ask_one bytes) (λ query. all_loaded_one next (told_after 1 v is) form.1 form.2 query))
 
   pub comes_one : (words : List (List ℕ)) → IsOne (Comes words v)
   comes_one words = then_one (WordsCome words) (Opened v) (words_one words) (λ form. opened_one form)

@@ -1,5 +1,5 @@
--- what a text asks: a sound query without views
-use Rattle.std.specs.Prelude.{◌≡◌, ◌≢◌, ◌<◌, ℕ, List, [], length, Result, Ok, Err}
+-- what a text asks: a sound query
+use Rattle.std.specs.Prelude.{◌≡◌, ◌≢◌, ◌<◌, ℕ, List, length, Result, Ok, Err}
 use Rattle.base_kit.specs.declared.place.Place.{Place}
 use Rattle.tiql_tree.specs.declared.tree.Tree.{Tree}
 use Rattle.tiql_tree.specs.Spelled.{Spelled, IsStop}
@@ -22,22 +22,17 @@ abbrev pub QueryComes : Tree → Result Query Refusal → Type 0
 QueryComes tree (Ok query) = Sound tree query
 QueryComes tree (Err why) = (fault : SoundFault) × (why ≡ refusal.Unsound fault) × (fault ≢ rules.Memory) × FirstBroken tree fault
 
--- views are not built yet
-abbrev pub BuiltComes : List ℕ → Query → Result Query Refusal → Type 0
-BuiltComes name query (Ok same) = (same ≡ query) × (query.views ≡ [])
-BuiltComes name query (Err why) = (why ≡ refusal.NotBuilt name) × (0 < length query.views)
+-- what a text asks: first its tree, and then the query of that
+abbrev pub AskComes : List ℕ → Result Query Refusal → Type 0
+AskComes bytes = Then (TreeComes bytes) QueryComes
 
--- what the text of this name asks
-abbrev pub AskComes : List ℕ → List ℕ → Result Query Refusal → Type 0
-AskComes name bytes = Then (TreeComes bytes) (λ tree. Then (QueryComes tree) (BuiltComes name))
-
--- the query has as few hypothetical tables and requirements as 32 bits number
+-- the query has as few hypothetical tables, views and requirements as 32 bits number
 pub record IsNumbered (query : Query) : Type 0 where
   pub hypos : length query.hypos < 4294967295
+  pub views : length query.views < 4294967295
   pub requires_ : length query.requires_ < 4294967295
 
--- a query that fits together, and of which all is built
+-- a query that fits together
 pub record IsAsked (query : Query) : Type 0 where
   pub fit : IsWellFormed query
   pub numbered : IsNumbered query
-  pub built : query.views ≡ []

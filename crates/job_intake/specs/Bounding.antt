@@ -6,6 +6,8 @@ use Rattle.world_def.specs.declared.fault.BoundsFault.{BoundsFault}
 use Rattle.world_def.specs.declared.fault.BoundsFault.TheVariants as faults
 use Rattle.world_def.specs.Columns.{Tables, columns_of}
 use Rattle.world_points.specs.Points.{least, greatest}
+use Rattle.job_intake.specs.declared.job.Task.{Task}
+use Rattle.job_intake.specs.declared.job.Task.TheVariants as task
 use Rattle.job_intake.specs.declared.refusal.Refusal.{Refusal}
 use Rattle.job_intake.specs.declared.refusal.Refusal.TheVariants as refusal
 
@@ -40,6 +42,8 @@ limits columns =
     else if nat_lt 1024 (unfixed columns) then Err (refusal.PartTooLarge (unfixed columns))
     else Ok tt
 
--- nothing, or the first limit that is passed
-abbrev pub LimitComes : List WorldColumn → Result Unit Refusal → Type 0
-LimitComes columns outcome = outcome ≡ limits columns
+-- nothing, or the first limit that is passed; an evaluation looks at one world, whatever the columns
+abbrev pub LimitComes : Task → List WorldColumn → Result Unit Refusal → Type 0
+LimitComes (task.Solve nodes) columns outcome = outcome ≡ limits columns
+LimitComes (task.Check answer) columns outcome = outcome ≡ limits columns
+LimitComes (task.Evaluate answer) columns outcome = outcome ≡ Ok tt

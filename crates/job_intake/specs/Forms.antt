@@ -8,6 +8,7 @@ use Rattle.job_intake.specs.declared.words.Form.{Form}
 abbrev pub command : Command → words.Command
 command (read.Solve nodes) = words.solve nodes
 command (read.Check answer) = words.check answer.now
+command (read.Evaluate answer) = words.evaluate answer.now
 
 -- a form of the words
 abbrev pub form : Form → words.Form

@@ -22,7 +22,7 @@ JobComes query tables columns task x outcome = outcome ≡ Ok (record { query = 
 
 -- from the task on: then the number of columns
 abbrev pub Finished : Visit → Command → Query → Tables → List WorldColumn → Result Job Refusal → Type 0
-Finished v command query tables columns = Then (TaskComes v command) (λ task. Then (LimitComes columns) (JobComes query tables columns task))
+Finished v command query tables columns = Then (TaskComes v command) (λ task. Then (LimitComes task columns) (JobComes query tables columns task))
 
 -- from the tables on: a fetch for each, then the bounds, then the task with the fetch behind them
 abbrev pub Loaded : Visit → List ℕ → Command → Query → Result Job Refusal → Type 0
@@ -30,7 +30,7 @@ Loaded v folder command query = Then (LoadComes v folder query.tables) (λ table
 
 -- from the query's file on, which has at most 16 MiB: then the query, then its tables with the fetches behind this one
 abbrev pub Opened : Visit → Form → Result Job Refusal → Type 0
-Opened v form = Then (FileComes v 16777216 form.0) (λ bytes. Then (AskComes form.0 bytes) (Loaded (after_fetches 1 v) form.1 form.2))
+Opened v form = Then (FileComes v 16777216 form.0) (λ bytes. Then (AskComes bytes) (Loaded (after_fetches 1 v) form.1 form.2))
 
 -- the words are one of the forms
 abbrev pub WordsCome : List (List ℕ) → Result Form Refusal → Type 0

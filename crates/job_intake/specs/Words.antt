@@ -15,10 +15,11 @@ nodes_of word =
     if nat_le (length word) 6 && begins_plain word && list_all is_ascii_digit word && nat_le (digits_value 10 word) 100000
     then Some (digits_value 10 word) else None
 
--- what is to be done: to solve within so many nodes, or to check the answer of this name
+-- what is to be done: to solve within so many nodes, or to check or evaluate the answer of this name
 pub data Command : Type 0 where
   solve : ℕ → Command
   check : List ℕ → Command
+  evaluate : List ℕ → Command
 
 -- a query's name, a folder, and what is to be done
 abbrev pub Form : Type 0
@@ -29,11 +30,13 @@ abbrev pub solve_form : List ℕ → List ℕ → List ℕ → Option ℕ → Op
 solve_form word query folder None = None
 solve_form word query folder (Some nodes) = if bytes_eq word (codes "solve") then Some (query, folder, solve nodes) else None
 
--- the form of checking, where the first word is `check`, or else that of solving
+-- the form of checking, where the first word is `check`, of evaluating, where it is `eval`, or else that of solving
 abbrev pub four_words : List ℕ → List ℕ → List ℕ → List ℕ → Option Form
-four_words word query folder last = if bytes_eq word (codes "check") then Some (query, folder, check last) else solve_form word query folder (nodes_of last)
+four_words word query folder last =
+    if bytes_eq word (codes "check") then Some (query, folder, check last)
+    else (if bytes_eq word (codes "eval") then Some (query, folder, evaluate last) else solve_form word query folder (nodes_of last))
 
--- `solve QUERY DIR` works 10,000 nodes, `solve QUERY DIR NODES` as many as it names; `check QUERY DIR ANSWER`
+-- `solve QUERY DIR` works 10,000 nodes, `solve QUERY DIR NODES` as many as it names; `check QUERY DIR ANSWER`; `eval QUERY DIR ANSWER`
 abbrev pub form_of : List (List ℕ) → Option Form
 form_of [] = None
 form_of (word ∷ []) = None

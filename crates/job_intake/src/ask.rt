@@ -7,26 +7,20 @@ ghost use Rattle.tiql_query.specs.WellFormed.{IsWellFormed};
 ghost use Rattle.job_intake.specs.Steps.{Follows};
 
 use crate::refusal::{Refusal, Stop};
-use base_kit::{List, Memory};
 use std::alloc::Global;
 use tiql_check::{SoundFault, check};
 use tiql_query::Query;
 use tiql_read::{ReadFault, read_query};
 use tiql_tree::Tree;
 
-/// The query of a text of fewer than 2^32 - 1 bytes, which was fetched under this name.
-pub fn ask(alloc: Global, name: &str, bytes: &[u8]) -> Result<Query, Stop>
+/// The query of a text of fewer than 2^32 - 1 bytes.
+pub fn ask(alloc: Global, bytes: &[u8]) -> Result<Query, Stop>
     requires { length bytes.now < 2 ^ 32 - 1 }
-    ensures comes { Follows (AskComes name.now bytes.now) result }
+    ensures comes { Follows (AskComes bytes.now) result }
     ensures asked { IfOk result IsAsked }
 {
     let tree = read_tree(alloc, bytes)?;
-    let query = check_tree(alloc, bytes, &tree)?;
-    if !query.views.is_empty() {
-        let name = List::from_slice(alloc, name.as_bytes())?;
-        return Err(Stop::Refused(Refusal::NotBuilt { name }));
-    }
-    Ok(query)
+    check_tree(alloc, bytes, &tree)
 }
 
 /// The tree of a text.

@@ -30,12 +30,14 @@ pub enum Task {
     Solve { nodes: u32 },
     /// To check this answer.
     Check { answer: Answer },
+    /// To evaluate this answer.
+    Evaluate { answer: Answer },
 }
 
 /// What a command works on.
 #[derive(Debug, Drop)]
 pub struct Job {
-    /// The query: it is sound and has no view.
+    /// The query: it is sound.
     pub query: Query,
     /// The rows of its tables.
     pub tables: Tables,
@@ -45,7 +47,7 @@ pub struct Job {
     pub task: Task,
 }
 
-/// The job of a command: `solve QUERY DIR`, `solve QUERY DIR NODES` or `check QUERY DIR ANSWER`. Each file is fetched once,
+/// The job of a command: `solve QUERY DIR`, `solve QUERY DIR NODES`, `check QUERY DIR ANSWER` or `eval QUERY DIR ANSWER`. Each file is fetched once,
 /// in the order of docs/ANSWERS.md, "Refusals": the query, its tables as they are declared, and the answer.
 ///
 /// `Refused` is the first refusal in that order; `Memory` may come at any step.
@@ -73,7 +75,7 @@ fn open<S: Shelf>(alloc: Global, shelf: &mut S, form: Form<'_>) -> Result<Job, S
         command,
     } = form;
     let text = fetch_file(alloc, shelf, name, MOST_FILE_BYTES)?;
-    let query = ask(alloc, name, text.as_slice())?;
+    let query = ask(alloc, text.as_slice())?;
     load(alloc, shelf, folder, command, query)
 }
 
@@ -109,7 +111,7 @@ fn finish<S: Shelf>(
     ensures comes { Follows (spec.Finished (visit S.held S.fails S.misses S.faults shelf.old shelf.new) (forms.command command.entry) query tables columns) result }
 {
     let task = task_of(alloc, shelf, command)?;
-    limit(columns.as_slice())?;
+    limit(&task, columns.as_slice())?;
     Ok(Job {
         query,
         tables,

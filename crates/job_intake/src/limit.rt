@@ -5,6 +5,7 @@ ghost use Rattle.world_points.specs.Points as points;
 ghost use Rattle.job_intake.specs.Bounding as spec;
 ghost use Rattle.job_intake.specs.Steps.{Follows};
 
+use crate::job::Task;
 use crate::refusal::{Refusal, Stop};
 use tiql_query::WorldColumn;
 
@@ -14,10 +15,21 @@ const MOST_COLUMNS: usize = 100_000;
 /// The most columns with more than one value.
 const MOST_UNFIXED: usize = 1_024;
 
+/// Refuses too many columns where worlds are to be listed; an evaluation looks at one world, whatever the columns.
+pub fn limit(task: &Task, columns: &[WorldColumn]) -> Result<(), Stop>
+    ensures { Follows (spec.LimitComes task.now columns.now) result }
+{
+    match task {
+        Task::Solve { .. } => within_limits(columns),
+        Task::Check { .. } => within_limits(columns),
+        Task::Evaluate { .. } => Ok(()),
+    }
+}
+
 /// Refuses too many columns.
 #[tactic(auto, unfolding(crate::specs::Bounding::limits))]
-pub fn limit(columns: &[WorldColumn]) -> Result<(), Stop>
-    ensures { Follows (spec.LimitComes columns.now) result }
+fn within_limits(columns: &[WorldColumn]) -> Result<(), Stop>
+    ensures { Follows (λ outcome. outcome ≡ spec.limits columns.now) result }
 {
     if columns.len() > MOST_COLUMNS {
         let count = columns.len() as u64;

@@ -27,8 +27,6 @@ pub enum Refusal {
     Syntax(Place),
     /// The query breaks this rule first.
     Unsound(SoundFault),
-    /// The query declares a view, which is not built yet; `name` is the name under which it was fetched.
-    NotBuilt { name: List<u8> },
     /// The file of this table is not a valid table: its first fault.
     Table { table: List<u8>, why: TableFault },
     /// A lower bound is above the upper one in this row, counted from 1, of the hypothetical table's own table.

@@ -20,6 +20,8 @@ pub enum Command<'a> {
     Solve { nodes: u32 },
     /// To check the answer of this name.
     Check { answer: &'a str },
+    /// To evaluate the answer of this name.
+    Evaluate { answer: &'a str },
 }
 
 /// What the words ask: the query's name, the folder of its tables, and what is to be done.
@@ -30,8 +32,8 @@ pub struct Form<'a> {
     pub command: Command<'a>,
 }
 
-/// What is asked, where the words are `solve QUERY DIR`, `solve QUERY DIR NODES` or
-/// `check QUERY DIR ANSWER` (docs/ANSWERS.md).
+/// What is asked, where the words are `solve QUERY DIR`, `solve QUERY DIR NODES`, `check QUERY DIR ANSWER` or
+/// `eval QUERY DIR ANSWER` (docs/ANSWERS.md).
 pub fn form_of(words: &[String]) -> Option<Form<'_>>
     ensures { option_map views.form result ≡ spec.form_of (map (λ word. string_bytes word) words.now) }
 {
@@ -52,12 +54,19 @@ pub fn form_of(words: &[String]) -> Option<Form<'_>>
     }
 }
 
-/// The form of checking, where the first word is `check`, or else that of solving.
+/// The form of checking, where the first word is `check`, of evaluating, where it is `eval`, or else that of solving.
 fn four_words<'a>(word: &str, query: &'a str, folder: &'a str, last: &'a str) -> Option<Form<'a>>
     ensures { option_map views.form result ≡ spec.four_words word.now query.now folder.now last.now }
 {
     if word == "check" {
         let command = Command::Check { answer: last };
+        Some(Form {
+            query,
+            folder,
+            command,
+        })
+    } else if word == "eval" {
+        let command = Command::Evaluate { answer: last };
         Some(Form {
             query,
             folder,

@@ -20,7 +20,16 @@ const KEYED: &str =
 const OUTSIDE: &str =
     "TABLE item (id INT, cost INT) KEY (id); HYPO h FROM item SET cost IN 2 .. 3 WHERE id >= 2 DROP; REQUIRE SOME h HAVE cost = 3; MINIMIZE SUM(cost) FROM h;";
 
+const VIEWED: &str =
+    "TABLE item (id INT, qty INT); HYPO h FROM item SET qty IN qty .. qty; VIEW tot AS SELECT SUM(h.qty) AS n FROM h; REQUIRE ALL tot HAVE n = 3; MAXIMIZE SUM(2 * n) FROM tot;";
+
+// Its view has 8^6 rows over a table of 8.
+const CROSSED: &str =
+    "TABLE item (id INT, qty INT); VIEW v AS SELECT a.id FROM item AS a, item AS b, item AS c, item AS d, item AS e, item AS f; REQUIRE SOME v HAVE id = 1; FIND;";
+
 const TABLE: &str = "id,qty\n1,0\n2,3\n";
+
+const EIGHT: &str = "id,qty\n1,0\n2,0\n3,0\n4,0\n5,0\n6,0\n7,0\n8,0\n";
 
 const PRICED: &str = "id,price,qty\n1,3,5\n2,2,7\n";
 
@@ -70,6 +79,9 @@ const OPEN_ANSWER: &str = "tiresias answer 1\n\
 const KEYED_ANSWER: &str =
     "tiresias answer 1\noptimal 12\nprogram 0 0 0\nworld h 2 25\nid,price,qty\n1,3,5\n2,2,7\nend\n";
 
+const VIEWED_ANSWER: &str =
+    "tiresias answer 1\noptimal 6\nprogram 0 0 0\nworld h 2 15\nid,qty\n1,0\n2,3\nend\n";
+
 const FIXED_ANSWER: &str = "tiresias answer 1\nimpossible\nprogram 0 0 0\nrow 0\nend\n";
 
 /// A query, its table, the answer that is there, the words, and how the run ends.
@@ -82,7 +94,7 @@ type Row = (
     &'static str,
 );
 
-const ROWS: [Row; 7] = [
+const ROWS: [Row; 10] = [
     (
         OUTSIDE,
         TWO_COSTS,
@@ -108,6 +120,23 @@ const ROWS: [Row; 7] = [
         FIXED_ANSWER,
     ),
     (KEYED, PRICED, "", "solve q d", Status::Done, KEYED_ANSWER),
+    (VIEWED, TABLE, "", "solve q d", Status::Done, VIEWED_ANSWER),
+    (
+        CROSSED,
+        EIGHT,
+        "",
+        "solve q d",
+        Status::Size,
+        "refused: too many view rows v 200000\n",
+    ),
+    (
+        CROSSED,
+        EIGHT,
+        FIXED_ANSWER,
+        "check q d a",
+        Status::Size,
+        "refused: too many view rows v 200000\n",
+    ),
     (
         OUTSIDE,
         TWO_COSTS,

@@ -1,6 +1,7 @@
 //! Rows are found by their keys.
 
 use base_kit::{List, Row, Txt, Value};
+use join_index::Index;
 use std::alloc::Global;
 use std::test::Fail;
 use tables_csv::KeyIndex;
@@ -30,5 +31,17 @@ fn no_key(rt: HostRuntime) -> Result<(), Fail> {
     let rows = [row(alloc, 7, "nut")?];
     let index = KeyIndex::build(alloc, &[], &rows)?;
     assert_eq!(rt; index.find(&[], &rows, &rows[0]), None);
+    Ok(())
+}
+
+#[test]
+fn the_rows_of_a_key(rt: HostRuntime) -> Result<(), Fail> {
+    let alloc = rt.alloc();
+    let mut rows = List::new(alloc);
+    rows.push(row(alloc, 7, "nut")?)?;
+    rows.push(row(alloc, 7, "bolt")?)?;
+    rows.push(row(alloc, 7, "nut")?)?;
+    let index = Index::build(alloc, &rows, &[0, 1])?;
+    assert_eq!(rt; index.matches(&row(alloc, 7, "nut")?), [0, 2].as_slice());
     Ok(())
 }

@@ -42,7 +42,7 @@ module _ (run : Run) (job : Job) (nodes : ℕ) (answer : Answer) (solves : Solve
 
   -- and where it is optimal, its sections are those of a best world
   pub optimal_says : (objective : ℤ) (worlds : List WorldText) (parts : List PartAnswer) → answer.verdict ≡ verdict.Optimal objective worlds parts →
-      (world : World) × IsWorldOf job.query job.tables worlds world × IsBest job.query job.tables world × (objective ≡ score job.query.aim job.tables world)
+      (world : World) × IsWorldOf job.query job.tables worlds world × IsBest job.query job.tables world × (objective ≡ score job.query job.tables world)
   optimal_says = optimal_best job.query job.tables job.columns nodes answer solution ready.asked.fit ready.tables ready.columns ready.wide
 
 -- an answer that is accepted is valid, and right

@@ -1,10 +1,11 @@
 -- where it is told which files there are and which fetches fail, the words and the files call for one reply alone
-use Rattle.std.proofs.Common.{◌≡◌, ℕ, List, inl, inr, refl, sym, ◌∙◌, ap, subst}
-use Rattle.std.specs.Prelude.{None, Result, Ok, Err}
+use Rattle.std.proofs.Common.{◌≡◌, ◌≢◌, ℕ, List, [], inl, inr, refl, sym, ◌∙◌, ap, subst}
+use Rattle.std.specs.Prelude.{Option, Some, None, Result, Ok, Err, option_map, unwrap_or}
 use Rattle.std.proofs.lemmas.Option.{none-some}
 use Rattle.base_kit.proofs.Results.{Ok-Err, same_Err, same_Ok}
 use Rattle.base_kit.specs.declared.status.Status.{Status}
 use Rattle.base_kit.specs.declared.status.Status.TheVariants as status
+use Rattle.cert_check.specs.Faults.{as_told}
 use Rattle.cert_check.specs.Reasons.{IsOutcome, Outcome}
 use Rattle.cert_check.specs.declared.fault.CheckFault.TheVariants as wrong
 use Rattle.cert_check.specs.Valid.{IsValid, NoFaults}
@@ -23,17 +24,25 @@ use Rattle.job_intake.specs.Visits.{IsTold}
 use Rattle.job_intake.specs.Words.{form_of}
 use Rattle.job_intake.proofs.One.{comes_one}
 use Rattle.job_intake.proofs.Readied.{comes_ready}
+use Rattle.tiql_query.specs.declared.query.Query.{Query}
 use Rattle.world_def.specs.Meaning.{NoneMeets}
 use Rattle.world_def.specs.declared.fault.EvalFault.{EvalFault}
 use Rattle.world_def.specs.declared.fault.EvalFault.TheVariants as eval
 use Rattle.world_listing.proofs.FaultLaws.{one_fault, answer_excludes}
-use Rattle.tiresias_core.specs.Causes.{Checks, IsDoneFor, IsReply, Solves}
-use Rattle.tiresias_core.specs.Exact.{IsAnswered, TellsAccepted, TellsAnswer, TellsFinished, TellsNone, TellsOutcome, TellsRefusal, TellsWide, TellsWords, TellsWrite, outcome_line, outcome_status, wide_fault_line}
-use Rattle.tiresias_core.specs.Lines.{refusal_status, wide_line}
+use Rattle.answer_text.specs.declared.answer.WorldText.{WorldText}
+use Rattle.world_def.specs.Columns.{Tables}
+use Rattle.world_def.specs.Views.{Gives}
+use Rattle.world_eval.specs.Evaluating.{Evaluates, EvaluatesEach, Tells, TellsEach}
+use Rattle.world_eval.specs.declared.evaluation.Evaluation.{Evaluation}
+use Rattle.world_eval.specs.declared.evaluation.Evaluation.TheVariants as evaluation
+use Rattle.tiresias_core.specs.Causes.{Checks, Evaluating, EvaluatesTo, IsDoneFor, IsReply, Solves, excess_of}
+use Rattle.tiresias_core.specs.Exact.{IsAnswered, TellsAccepted, TellsAnswer, TellsEvaluation, TellsFinished, TellsNone, TellsOutcome, TellsRefusal, TellsTooLarge, TellsWords, TellsWrite, evaluated_status, evaluated_text, fault_line, outcome_line, outcome_status}
+use Rattle.tiresias_core.specs.Lines.{excess_line, refusal_status}
 use Rattle.tiresias_core.specs.Replies.{accepted_line, status_of, text_of, verdict_status}
 use Rattle.tiresias_core.specs.Runs.{Leaves, Wrote}
 use Rattle.tiresias_core.specs.Sights.{IsWhole, Run, Writes}
-use Rattle.tiresias_core.specs.Solving.{IsEnough, IsTooWide}
+use Rattle.tiresias_core.specs.Solving.{IsEnough, IsTooLarge}
+use Rattle.tiresias_core.specs.declared.excess.Excess.{Excess}
 use Rattle.tiresias_core.specs.declared.reply.Reply.{Reply}
 use Rattle.tiresias_core.specs.declared.reply.Reply.TheVariants as reply
 use Rattle.tiresias_core.proofs.Listed.{optimal_meets, unfinished_short}
@@ -50,9 +59,10 @@ module _ (run : Run) where
   words_status : (it : Reply) → IsReply run.words run.visit it → form_of run.words ≡ None → status_of it ≡ status.Words
   words_status (reply.Refused why) is none = ap refusal_status (same_Err why refusal.Words (no_form (Err why) is none))
   words_status (reply.Answered answer) is none = absurd (no_job is.0 is.1 none)
-  words_status (reply.TooWide name number) is none = absurd (no_job is.0 is.1 none)
+  words_status (reply.TooLarge told) is none = absurd (no_job is.0 is.1 none)
   words_status (reply.Accepted objective) is none = absurd (no_job is.0 is.1 none)
   words_status (reply.Rejected reason part node) is none = absurd (no_job is.0 is.1 none)
+  words_status (reply.Evaluated told) is none = absurd (no_job is.0 is.1 none)
 
   left_whole : (told : Status) → Leaves run told → IsWhole told → Wrote run told
   left_whole status.Done left whole = left
@@ -96,9 +106,10 @@ module _ (run : Run) (is : IsTold run.visit) where
   done_job : (job : Job) (it : Reply) → Comes run.words run.visit (Ok job) → IsReply run.words run.visit it → IsDoneFor job job.task it
   done_job job (reply.Refused why) comes cause = absurd (not_both job why comes cause)
   done_job job (reply.Answered answer) comes cause = subst (λ (j : Job). IsDoneFor j j.task (reply.Answered answer)) (one_job cause.0 job cause.1 comes) cause.2
-  done_job job (reply.TooWide name number) comes cause = subst (λ (j : Job). IsDoneFor j j.task (reply.TooWide name number)) (one_job cause.0 job cause.1 comes) cause.2
+  done_job job (reply.TooLarge told) comes cause = subst (λ (j : Job). IsDoneFor j j.task (reply.TooLarge told)) (one_job cause.0 job cause.1 comes) cause.2
   done_job job (reply.Accepted objective) comes cause = subst (λ (j : Job). IsDoneFor j j.task (reply.Accepted objective)) (one_job cause.0 job cause.1 comes) cause.2
   done_job job (reply.Rejected reason part node) comes cause = subst (λ (j : Job). IsDoneFor j j.task (reply.Rejected reason part node)) (one_job cause.0 job cause.1 comes) cause.2
+  done_job job (reply.Evaluated told) comes cause = subst (λ (j : Job). IsDoneFor j j.task (reply.Evaluated told)) (one_job cause.0 job cause.1 comes) cause.2
 
   -- one that is solved, and one whose answer is checked
   solved_job : (job : Job) (nodes : ℕ) (it : Reply) → Solves run job nodes → IsReply run.words run.visit it → IsDoneFor job (task.Solve nodes) it
@@ -107,25 +118,34 @@ module _ (run : Run) (is : IsTold run.visit) where
   checked_job : (job : Job) (answer : Answer) (it : Reply) → Checks run job answer → IsReply run.words run.visit it → IsDoneFor job (task.Check answer) it
   checked_job job answer it checks cause = subst (λ (t : Task). IsDoneFor job t it) checks.task (done_job job it checks.comes cause)
 
+  evaluated_job : (job : Job) (answer : Answer) (it : Reply) → Evaluating run job answer → IsReply run.words run.visit it → IsDoneFor job (task.Evaluate answer) it
+  evaluated_job job answer it evaluating cause = subst (λ (t : Task). IsDoneFor job t it) evaluating.task (done_job job it evaluating.comes cause)
+
   refused_reply : (why : Refusal) (it : Reply) → Comes run.words run.visit (Err why) → IsReply run.words run.visit it → it ≡ reply.Refused why
   refused_reply why (reply.Refused other) comes cause = ap reply.Refused (same_Err other why (comes_one run.visit is run.words (Err other) (Err why) cause comes))
   refused_reply why (reply.Answered answer) comes cause = absurd (not_both cause.0 why cause.1 comes)
-  refused_reply why (reply.TooWide name number) comes cause = absurd (not_both cause.0 why cause.1 comes)
+  refused_reply why (reply.TooLarge told) comes cause = absurd (not_both cause.0 why cause.1 comes)
   refused_reply why (reply.Accepted objective) comes cause = absurd (not_both cause.0 why cause.1 comes)
   refused_reply why (reply.Rejected reason part node) comes cause = absurd (not_both cause.0 why cause.1 comes)
+  refused_reply why (reply.Evaluated told) comes cause = absurd (not_both cause.0 why cause.1 comes)
 
 -- ---- what is told of a job that is solved
 
--- a value that is too large is told
-passed : (job : Job) (nodes : ℕ) (it : Reply) (fault : EvalFault) → IsReady job → IsTooWide job.query job.tables job.columns nodes fault → IsDoneFor job (task.Solve nodes) it
-    → (status_of it ≡ status.Size) × (text_of it ≡ wide_fault_line job.query fault)
+-- the line of what is told of a world at fault is that of the fault
+line_told : (query : Query) (fault : EvalFault) (told : Excess) → excess_of query fault ≡ Some told → excess_line told ≡ fault_line query fault
+line_told query fault told e = sym (ap (λ (o : Option Excess). unwrap_or (option_map excess_line o) []) e)
+
+-- what passes is told
+passed : (job : Job) (nodes : ℕ) (it : Reply) (fault : EvalFault) → IsReady job → IsTooLarge job.query job.tables job.columns nodes fault → IsDoneFor job (task.Solve nodes) it
+    → (status_of it ≡ status.Size) × (text_of it ≡ fault_line job.query fault)
 passed job nodes (reply.Refused why) fault ready faults done = absurd done
 passed job nodes (reply.Answered answer) fault ready faults done = absurd (answer_excludes job.query job.tables job.columns ready.columns nodes fault faults answer done)
-passed job nodes (reply.TooWide name number) (eval.Wide source other) ready faults done =
-    let same = one_fault job.query job.tables job.columns nodes nodes (eval.Wide done.0 number) (eval.Wide source other) done.1 faults in
-    (refl, ap (λ (n : List ℕ). wide_line n number) done.2 ∙ ap (wide_fault_line job.query) same)
+passed job nodes (reply.TooLarge told) fault ready faults done =
+    let same = one_fault job.query job.tables job.columns nodes nodes done.0 fault done.1 faults in
+    (refl, line_told job.query done.0 told done.2 ∙ ap (fault_line job.query) same)
 passed job nodes (reply.Accepted objective) fault ready faults done = absurd done
 passed job nodes (reply.Rejected reason part node) fault ready faults done = absurd done
+passed job nodes (reply.Evaluated told) fault ready faults done = absurd done
 
 verdict_answered : (it : Verdict) → IsAnswered (verdict_status it)
 verdict_answered (verdict.Optimal objective worlds parts) = tt
@@ -133,19 +153,21 @@ verdict_answered (verdict.FalseRow row) = tt
 verdict_answered (verdict.NoWorld part) = tt
 verdict_answered (verdict.Unfinished nodes parts) = tt
 
-answered_by : (job : Job) (nodes : ℕ) (it : Reply) → ((fault : EvalFault) → IsTooWide job.query job.tables job.columns nodes fault → ⊥) → IsDoneFor job (task.Solve nodes) it → IsAnswered (status_of it)
+answered_by : (job : Job) (nodes : ℕ) (it : Reply) → ((fault : EvalFault) → IsTooLarge job.query job.tables job.columns nodes fault → ⊥) → IsDoneFor job (task.Solve nodes) it → IsAnswered (status_of it)
 answered_by job nodes (reply.Refused why) none done = absurd done
 answered_by job nodes (reply.Answered answer) none done = verdict_answered answer.verdict
-answered_by job nodes (reply.TooWide name number) none done = absurd (none (eval.Wide done.0 number) done.1)
+answered_by job nodes (reply.TooLarge told) none done = absurd (none done.0 done.1)
 answered_by job nodes (reply.Accepted objective) none done = absurd done
 answered_by job nodes (reply.Rejected reason part node) none done = absurd done
+answered_by job nodes (reply.Evaluated told) none done = absurd done
 
 -- where none meets, no answer is an optimal one
 none_done : (job : Job) (nodes : ℕ) (it : Reply) → NoneMeets job.query job.tables → IsDoneFor job (task.Solve nodes) it → status.Done ≡ status_of it → ⊥
 none_done job nodes (reply.Refused why) none done same = done
-none_done job nodes (reply.TooWide name number) none done same = cc
+none_done job nodes (reply.TooLarge told) none done same = cc
 none_done job nodes (reply.Accepted objective) none done same = done
 none_done job nodes (reply.Rejected reason part node) none done same = done
+none_done job nodes (reply.Evaluated told) none done same = done
 none_done job nodes (reply.Answered answer) none done same = by_verdict answer.verdict refl same
   where
     by_verdict : (it : Verdict) → answer.verdict ≡ it → status.Done ≡ verdict_status it → ⊥
@@ -157,9 +179,10 @@ none_done job nodes (reply.Answered answer) none done same = by_verdict answer.v
 -- with nodes enough, the work is finished
 enough_done : (job : Job) (nodes : ℕ) (it : Reply) → IsEnough job.columns nodes → IsDoneFor job (task.Solve nodes) it → status.Unfinished ≡ status_of it → ⊥
 enough_done job nodes (reply.Refused why) enough done same = done
-enough_done job nodes (reply.TooWide name number) enough done same = cc
+enough_done job nodes (reply.TooLarge told) enough done same = cc
 enough_done job nodes (reply.Accepted objective) enough done same = done
 enough_done job nodes (reply.Rejected reason part node) enough done same = done
+enough_done job nodes (reply.Evaluated told) enough done same = done
 enough_done job nodes (reply.Answered answer) enough done same = by_verdict answer.verdict refl same
   where
     by_verdict : (it : Verdict) → answer.verdict ≡ it → status.Unfinished ≡ verdict_status it → ⊥
@@ -170,30 +193,78 @@ enough_done job nodes (reply.Answered answer) enough done same = by_verdict answ
 
 -- ---- and of one whose answer is checked
 
+-- so is what passes in a check
+outcome_told : (query : Query) (answer : Answer) (fault : EvalFault) (told : Excess) → excess_of query fault ≡ Some told
+    → (status.Size ≡ outcome_status (Err (as_told fault))) × (excess_line told ≡ outcome_line query answer (Err (as_told fault)))
+outcome_told query answer (eval.Wide source number) told e = (refl, line_told query (eval.Wide source number) told e)
+outcome_told query answer (eval.TooManyRows view limit) told e = (refl, line_told query (eval.TooManyRows view limit) told e)
+outcome_told query answer eval.Memory told e = absurd (none-some told e)
+
 -- what the check comes to is told
 audited : (job : Job) (answer : Answer) (it : Reply) (outcome : Outcome) → IsReady job → IsOutcome job.query job.tables job.columns answer outcome → IsDoneFor job (task.Check answer) it
     → (status_of it ≡ outcome_status outcome) × (text_of it ≡ outcome_line job.query answer outcome)
 audited job answer (reply.Refused why) outcome ready of done = absurd done
 audited job answer (reply.Answered other) outcome ready of done = absurd done
-audited job answer (reply.TooWide name number) outcome ready of done =
-    let same = one_outcome job.query job.tables job.columns ready.tables answer (Err (wrong.Wide done.0 number)) outcome done.1 of in
-    (ap outcome_status same, ap (λ (n : List ℕ). wide_line n number) done.2 ∙ ap (outcome_line job.query answer) same)
+audited job answer (reply.TooLarge told) outcome ready of done =
+    let same = one_outcome job.query job.tables job.columns ready.tables answer (Err (as_told done.0)) outcome done.1 of in
+    let both = outcome_told job.query answer done.0 told done.2 in
+    (both.0 ∙ ap outcome_status same, both.1 ∙ ap (outcome_line job.query answer) same)
 audited job answer (reply.Accepted objective) outcome ready of done =
     let same = one_outcome job.query job.tables job.columns ready.tables answer (Ok tt) outcome done.0 of in
     (ap outcome_status same, ap accepted_line done.1 ∙ ap (outcome_line job.query answer) same)
 audited job answer (reply.Rejected reason part node) outcome ready of done =
     let same = one_outcome job.query job.tables job.columns ready.tables answer (Err (wrong.Rejected reason part node)) outcome done of in
     (ap outcome_status same, ap (outcome_line job.query answer) same)
+audited job answer (reply.Evaluated told) outcome ready of done = absurd done
 
--- a valid answer is accepted where no judged world has a value that is too large
+-- a valid answer is accepted where no judged world is at fault
 accepted_by : (job : Job) (answer : Answer) (it : Reply) → IsReady job → IsValid job.query job.tables job.columns answer → NoFaults job.query job.tables job.columns answer.verdict → IsDoneFor job (task.Check answer) it → status_of it ≡ status.Done
 accepted_by job answer (reply.Refused why) ready valid sound done = absurd done
 accepted_by job answer (reply.Answered other) ready valid sound done = absurd done
-accepted_by job answer (reply.TooWide name number) ready valid sound done =
-    let no = valid_accepted job.query job.tables job.columns ready.columns ready.asked.fit ready.tables answer (Err (wrong.Wide done.0 number)) valid sound done.1 in cc
+accepted_by job answer (reply.TooLarge told) ready valid sound done =
+    let no = valid_accepted job.query job.tables job.columns ready.columns ready.asked.fit ready.tables answer (Err (as_told done.0)) valid sound done.1 in cc
 accepted_by job answer (reply.Accepted objective) ready valid sound done = refl
 accepted_by job answer (reply.Rejected reason part node) ready valid sound done =
     let no = valid_accepted job.query job.tables job.columns ready.columns ready.asked.fit ready.tables answer (Err (wrong.Rejected reason part node)) valid sound done in cc
+accepted_by job answer (reply.Evaluated told) ready valid sound done = absurd done
+
+-- ---- and of one whose answer is evaluated
+
+-- what an evaluation comes to is one
+one_told : (query : Query) (tables : Tables) (worlds : List WorldText) (one other : Result Evaluation EvalFault) → one ≢ Err eval.Memory → other ≢ Err eval.Memory → Tells query tables worlds one → TellsEach query tables worlds other → one ≡ other
+one_told query tables worlds (Ok a) (Ok b) x y of each = sym of.2 ∙ each of.0 of.1
+one_told query tables worlds (Ok a) (Err f) x y of each = sym of.2 ∙ each of.0 of.1 (λ e. y (ap (λ (f : EvalFault). Err f) e))
+one_told query tables worlds (Err e) (Ok b) x y of each = let it = of (λ m. x (ap (λ (f : EvalFault). Err f) m)) in sym it.2 ∙ each it.0 it.1
+one_told query tables worlds (Err e) (Err f) x y of each = let it = of (λ m. x (ap (λ (f : EvalFault). Err f) m)) in sym it.2 ∙ each it.0 it.1 (λ m. y (ap (λ (f : EvalFault). Err f) m))
+
+one_given : (one other : Result Evaluation EvalFault) → one ≢ Err eval.Memory → other ≢ Err eval.Memory → Gives (Ok evaluation.NoWorld) one → Gives (Ok evaluation.NoWorld) other → one ≡ other
+one_given (Ok a) (Ok b) x y of each = sym of ∙ each
+one_given (Ok a) (Err f) x y of each = sym of ∙ each (λ e. y (ap (λ (f : EvalFault). Err f) e))
+one_given (Err e) (Ok b) x y of each = sym (of (λ m. x (ap (λ (f : EvalFault). Err f) m))) ∙ each
+one_given (Err e) (Err f) x y of each = sym (of (λ m. x (ap (λ (f : EvalFault). Err f) m))) ∙ each (λ m. y (ap (λ (f : EvalFault). Err f) m))
+
+one_evaluation : (query : Query) (tables : Tables) (it : Verdict) (one other : Result Evaluation EvalFault) → one ≢ Err eval.Memory → other ≢ Err eval.Memory → Evaluates query tables it one → EvaluatesEach query tables it other → one ≡ other
+one_evaluation query tables (verdict.Optimal objective worlds parts) one other x y of each = one_told query tables worlds one other x y of each
+one_evaluation query tables (verdict.FalseRow row) one other x y of each = one_given one other x y of each
+one_evaluation query tables (verdict.NoWorld part) one other x y of each = one_given one other x y of each
+one_evaluation query tables (verdict.Unfinished nodes parts) one other x y of each = one_given one other x y of each
+
+no_memory : (query : Query) (fault : EvalFault) (told : Excess) → excess_of query fault ≡ Some told → ◌≢◌ {A = Result Evaluation EvalFault} (Err fault) (Err eval.Memory)
+no_memory query fault told e memory = none-some told (sym (ap (excess_of query) (same_Err fault eval.Memory memory)) ∙ e)
+
+-- it is told
+evaluated_by : (job : Job) (answer : Answer) (it : Reply) (outcome : Result Evaluation EvalFault) → outcome ≢ Err eval.Memory → Evaluates job.query job.tables answer.verdict outcome → IsDoneFor job (task.Evaluate answer) it
+    → (status_of it ≡ evaluated_status outcome) × (text_of it ≡ evaluated_text job.query outcome)
+evaluated_by job answer (reply.Refused why) outcome some of done = absurd done
+evaluated_by job answer (reply.Answered other) outcome some of done = absurd done
+evaluated_by job answer (reply.TooLarge told) outcome some of done =
+    let same = one_evaluation job.query job.tables answer.verdict outcome (Err done.0) some (no_memory job.query done.0 told done.2) of done.1.each in
+    (ap evaluated_status (sym same), line_told job.query done.0 told done.2 ∙ ap (evaluated_text job.query) (sym same))
+evaluated_by job answer (reply.Accepted objective) outcome some of done = absurd done
+evaluated_by job answer (reply.Rejected reason part node) outcome some of done = absurd done
+evaluated_by job answer (reply.Evaluated told) outcome some of done =
+    let same = one_evaluation job.query job.tables answer.verdict outcome (Ok told) some (λ e. Ok-Err told eval.Memory e) of done.0.each in
+    (ap evaluated_status (sym same), ap (evaluated_text job.query) (sym same))
 
 -- ---- so it is told
 
@@ -204,8 +275,8 @@ module _ (run : Run) (told : Status) (left : Leaves run told) where
       let same = refused_reply run is why w.reply comes w.cause in
       (w.same ∙ ap status_of same, subst (λ (r : Reply). Writes run (text_of r)) same w.text)
 
-  pub wide_told : TellsWide run told
-  wide_told is whole job nodes solves fault faults =
+  pub passes_told : TellsTooLarge run told
+  passes_told is whole job nodes solves fault faults =
       let w = left_whole run told left whole in
       let ready = comes_ready run.words run.visit job solves.comes in
       let both = passed job nodes w.reply fault ready faults (solved_job run is job nodes w.reply solves w.cause) in
@@ -238,3 +309,9 @@ module _ (run : Run) (told : Status) (left : Leaves run told) where
       let w = left_whole run told left whole in
       let ready = comes_ready run.words run.visit job checks.comes in
       w.same ∙ accepted_by job answer w.reply ready valid sound (checked_job run is job answer w.reply checks w.cause)
+
+  pub evaluated_told : TellsEvaluation run told
+  evaluated_told is whole job answer evaluating outcome some of =
+      let w = left_whole run told left whole in
+      let both = evaluated_by job answer w.reply outcome some of (evaluated_job run is job answer w.reply evaluating w.cause) in
+      (w.same ∙ both.0, subst (Writes run) both.1 w.text)

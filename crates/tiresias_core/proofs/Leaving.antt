@@ -57,6 +57,7 @@ module _ (run : Run) where
       )
   reads_of told (reply.Refused why) is (inr kept) tells whole rose = absurd (rose kept)
   reads_of told (reply.Answered answer) is kept tells whole rose = absurd (rose kept)
-  reads_of told (reply.TooWide name number) is kept tells whole rose = absurd (rose kept)
+  reads_of told (reply.TooLarge excess) is kept tells whole rose = absurd (rose kept)
   reads_of told (reply.Accepted objective) is kept tells whole rose = absurd (rose kept)
   reads_of told (reply.Rejected reason part node) is kept tells whole rose = absurd (rose kept)
+  reads_of told (reply.Evaluated evaluation) is kept tells whole rose = absurd (rose kept)

@@ -109,7 +109,7 @@ module _ (query : Query) (tables : Tables) (columns : List WorldColumn) (budget 
   -- the sections of an optimal answer are those of a best world, whose score is the objective
   pub optimal_best : IsWellFormed query → AreTables query tables → columns_of query tables ≡ Ok columns → All (λ table. 0 < length table.columns) query.tables
       → (objective : ℤ) (worlds : List WorldText) (parts : List PartAnswer) → answer.verdict ≡ verdict.Optimal objective worlds parts
-      → (world : World) × IsWorldOf query tables worlds world × IsBest query tables world × (objective ≡ score query.aim tables world)
+      → (world : World) × IsWorldOf query tables worlds world × IsBest query tables world × (objective ≡ score query tables world)
   optimal_best fit are made some objective worlds parts at =
       let tells : told.IsOptimal query tables columns budget objective worlds parts = told_of (verdict.Optimal objective worlds parts) at in
       (tells.world, optimal_read query tables columns budget fit are made some objective worlds parts tells, tells.best, tells.score)

@@ -12,6 +12,8 @@ use Rattle.tables_csv.specs.declared.fault.TableFault.{TableFault}
 use Rattle.tables_csv.specs.declared.fault.TableFault.TheVariants as table
 use Rattle.tiql_check.specs.declared.fault.SoundFault.{SoundFault}
 use Rattle.tiql_check.specs.declared.fault.SoundFault.TheVariants as rule
+use Rattle.tiresias_core.specs.declared.excess.Excess.{Excess}
+use Rattle.tiresias_core.specs.declared.excess.Excess.TheVariants as excess
 
 -- the status of a refusal
 abbrev pub refusal_status : Refusal → Status
@@ -19,7 +21,6 @@ refusal_status refusal.Words = status.Words
 refusal_status (refusal.File name why) = status.Read
 refusal_status (refusal.Syntax place) = status.Query
 refusal_status (refusal.Unsound fault) = status.Query
-refusal_status (refusal.NotBuilt name) = status.Query
 refusal_status (refusal.Table name why) = status.Tables
 refusal_status (refusal.EmptyBounds hypo row) = status.Tables
 refusal_status (refusal.TooWide hypo number) = status.Size
@@ -87,13 +88,21 @@ table_line name table.Memory = []
 abbrev pub wide_line : List ℕ → ℤ → List ℕ
 wide_line name number = codes "refused: range too wide " ++ name ++ (codes " " ++ signed_decimal number) ++ 10 ∷ []
 
+-- the line of a limit of rows that is passed, of the view of this name
+abbrev pub rows_line : List ℕ → ℕ → List ℕ
+rows_line name limit = codes "refused: too many view rows " ++ name ++ (codes " " ++ decimal limit) ++ 10 ∷ []
+
+-- the line of what passes in a world that was looked at
+abbrev pub excess_line : Excess → List ℕ
+excess_line (excess.Value name number) = wide_line name number
+excess_line (excess.Rows name limit) = rows_line name limit
+
 -- the line of a refusal
 abbrev pub refusal_line : Refusal → List ℕ
 refusal_line refusal.Words = codes "refused: words" ++ 10 ∷ []
 refusal_line (refusal.File name why) = file_line name why
 refusal_line (refusal.Syntax place) = line_at (codes "syntax") place
 refusal_line (refusal.Unsound fault) = rule_line fault
-refusal_line (refusal.NotBuilt name) = codes "refused: not built " ++ name ++ codes "" ++ 10 ∷ []
 refusal_line (refusal.Table name why) = table_line name why
 refusal_line (refusal.EmptyBounds hypo row) = codes "refused: empty bounds " ++ hypo ++ (codes " " ++ decimal row) ++ 10 ∷ []
 refusal_line (refusal.TooWide hypo number) = wide_line hypo number

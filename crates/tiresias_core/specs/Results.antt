@@ -20,12 +20,15 @@ use Rattle.outside_io.specs.Counts.{Rose}
 use Rattle.job_intake.specs.Jobs.{Comes}
 use Rattle.world_def.specs.Meaning.{IsBest, NoneMeets, score}
 use Rattle.world_def.specs.declared.world.World.{World}
-use Rattle.tiresias_core.specs.Causes.{Checks, IsReadFailed, Passes, Solves}
-use Rattle.tiresias_core.specs.Lines.{file_line, refusal_line, refusal_status, wide_line}
-use Rattle.tiresias_core.specs.Replies.{accepted_line, rejected_line}
+use Rattle.world_eval.specs.Evaluating.{IsMeant}
+use Rattle.world_eval.specs.declared.evaluation.Evaluation.{Evaluation}
+use Rattle.tiresias_core.specs.Causes.{Checks, Evaluating, EvaluatesTo, IsReadFailed, Passes, Solves}
+use Rattle.tiresias_core.specs.Lines.{excess_line, file_line, refusal_line, refusal_status}
+use Rattle.tiresias_core.specs.Replies.{accepted_line, evaluation_status, evaluation_text, rejected_line}
 use Rattle.tiresias_core.specs.Sights.{Run, Writes}
 use Rattle.tiresias_core.specs.Solving.{IsSolution}
 use Rattle.tiresias_core.specs.Verdicts.{objective_of}
+use Rattle.tiresias_core.specs.declared.excess.Excess.{Excess}
 
 -- an answer of at most 512 MiB is read from its text
 abbrev pub IsReadable : Answer → Type 0
@@ -45,7 +48,7 @@ pub record WroteBest (run : Run) : Type 0 where
   pub world : World
   pub given : IsWorldOf job.query job.tables worlds world
   pub best : IsBest job.query job.tables world
-  pub value : objective ≡ score job.query.aim job.tables world
+  pub value : objective ≡ score job.query job.tables world
   pub valid : IsValid job.query job.tables job.columns answer
   pub sound : NoFaults job.query job.tables job.columns answer.verdict
   pub readable : IsReadable answer
@@ -89,14 +92,13 @@ pub record WroteReadFailed (run : Run) : Type 0 where
   pub failed : IsReadFailed run name
   pub text : Writes run (file_line name fault.ReadFailed)
 
--- the line of a value that is too large in a judged world
-pub record WroteWide (run : Run) : Type 0 where
+-- the line of what passes in a judged world: a value that is too large, or a limit of a view's rows
+pub record WroteTooLarge (run : Run) : Type 0 where
   pub job : Job
   pub comes : Comes run.words run.visit (Ok job)
-  pub name : List ℕ
-  pub number : ℤ
-  pub cause : Passes job job.task name number
-  pub text : Writes run (wide_line name number)
+  pub told : Excess
+  pub cause : Passes job job.task told
+  pub text : Writes run (excess_line told)
 
 -- the line of an answer that is accepted: it is valid, and what it says is right, whoever wrote it
 pub record WroteAccepted (run : Run) : Type 0 where
@@ -118,13 +120,24 @@ pub record WroteRejected (run : Run) : Type 0 where
   pub first : IsOutcome job.query job.tables job.columns answer (Err (wrong.Rejected reason part node))
   pub text : Writes run (rejected_line reason part node)
 
+-- the text of an evaluation of an answer, which has this status: what it comes to, by the plain meaning
+pub record WroteEvaluation (run : Run) (told : Status) : Type 0 where
+  pub job : Job
+  pub answer : Answer
+  pub evaluating : Evaluating run job answer
+  pub evaluation : Evaluation
+  pub comes : EvaluatesTo job answer (Ok evaluation)
+  pub meant : IsMeant job.query job.tables answer.verdict evaluation
+  pub status : evaluation_status evaluation ≡ told
+  pub text : Writes run (evaluation_text evaluation)
+
 -- what each status says
 abbrev pub Says : Run → Status → Type 0
-Says run status.Done = WroteBest run ⊎ WroteAccepted run
+Says run status.Done = WroteBest run ⊎ (WroteAccepted run ⊎ WroteEvaluation run status.Done)
 Says run status.Impossible = WroteNone run
 Says run status.Unfinished = WroteUnfinished run
-Says run status.Rejected = WroteRejected run
-Says run status.Size = WroteRefusal run status.Size ⊎ WroteWide run
+Says run status.Rejected = WroteRejected run ⊎ WroteEvaluation run status.Rejected
+Says run status.Size = WroteRefusal run status.Size ⊎ WroteTooLarge run
 Says run status.Write = Rose run.faults run.faults_now
 Says run status.Memory = Unit {0}
 Says run other = WroteRefusal run other

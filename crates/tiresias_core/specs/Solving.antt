@@ -16,9 +16,9 @@ module _ (query : Query) (tables : Tables) (columns : List WorldColumn) where
   abbrev pub IsSolution : ℕ → Answer → Type 0
   IsSolution budget answer = Answers query tables columns budget answer
 
-  -- nothing is answered, since this value of a world is the first that is too large
-  abbrev pub IsTooWide : ℕ → EvalFault → Type 0
-  IsTooWide budget told = FaultsIn query tables columns budget told
+  -- nothing is answered, since this is the first that passes in a world: a value that is too large, or a limit of a view's rows
+  abbrev pub IsTooLarge : ℕ → EvalFault → Type 0
+  IsTooLarge budget told = FaultsIn query tables columns budget told
 
 -- the budget has a node for each that may be worked: one less than twice the points of the box of these columns
 abbrev pub IsEnough : List WorldColumn → ℕ → Type 0

@@ -4,25 +4,24 @@ ghost use Rattle.std.specs.Prelude.{◌≡◌, ◌≤◌, IfOk, map, string_byte
 ghost use Rattle.answer_text.specs.Answers.{IsAnswer};
 ghost use Rattle.job_intake.specs.Ready.{IsReady};
 ghost use Rattle.job_intake.specs.Visits.{visit};
-ghost use Rattle.tiresias_core.specs.Causes as causes;
-ghost use Rattle.tiresias_core.specs.Causes.{IsChecked, IsDone, IsReply, IsSolved, KeepsFaults};
-ghost use Rattle.tiresias_core.specs.Exact.{TellsAccepted, TellsAnswer, TellsFinished, TellsNone, TellsOutcome, TellsReadFailed, TellsRefusal, TellsWide, TellsWords, TellsWrite};
+ghost use Rattle.tiresias_core.specs.Causes.{IsChecked, IsDone, IsEvaluated, IsReply, IsSolved, KeepsFaults};
+ghost use Rattle.tiresias_core.specs.Exact.{TellsAccepted, TellsAnswer, TellsEvaluation, TellsFinished, TellsNone, TellsOutcome, TellsReadFailed, TellsRefusal, TellsTooLarge, TellsWords, TellsWrite};
 ghost use Rattle.tiresias_core.specs.Results.{Says};
 ghost use Rattle.tiresias_core.specs.Runs.{Leaves, Tells};
 ghost use Rattle.tiresias_core.specs.Sights.{saw};
 
+use crate::excess::excess_of;
 use crate::reply::{Reply, objective_of, status_of, text_of};
 use crate::write::write_text;
 use answer_text::Answer;
-use base_kit::{List, Memory, Status};
+use base_kit::{Memory, Status};
 use cert_check::{CheckFault, check_listed};
 use job_intake::{Job, Stop, Task, take_job};
 use outside_io::{Shelf, Sink, SinkFault};
 use std::alloc::Global;
-use tiql_query::{Query, Source};
 use world_def::EvalFault;
+use world_eval::evaluate;
 use world_listing::answer_listed;
-use world_points::PointFault;
 
 /// Runs one command: reads the words after the program's name, fetches files from the shelf, and writes the reply to the
 /// sink (docs/ANSWERS.md).
@@ -37,11 +36,12 @@ pub fn run<S: Shelf, K: Sink>(alloc: Global, words: &[String], shelf: &mut S, ou
 
     // Where the shelf tells which files there are and which fetches fail: the refusal, what is solved, and what is checked.
     ensures refused { TellsRefusal (saw words.now S.held S.fails S.misses S.faults shelf.old shelf.new K.written K.faults out.old out.new) result }
-    ensures passes { TellsWide (saw words.now S.held S.fails S.misses S.faults shelf.old shelf.new K.written K.faults out.old out.new) result }
+    ensures passes { TellsTooLarge (saw words.now S.held S.fails S.misses S.faults shelf.old shelf.new K.written K.faults out.old out.new) result }
     ensures answered { TellsAnswer (saw words.now S.held S.fails S.misses S.faults shelf.old shelf.new K.written K.faults out.old out.new) result }
     ensures none { TellsNone (saw words.now S.held S.fails S.misses S.faults shelf.old shelf.new K.written K.faults out.old out.new) result }
     ensures enough { TellsFinished (saw words.now S.held S.fails S.misses S.faults shelf.old shelf.new K.written K.faults out.old out.new) result }
     ensures checked { TellsOutcome (saw words.now S.held S.fails S.misses S.faults shelf.old shelf.new K.written K.faults out.old out.new) result }
+    ensures evaluated { TellsEvaluation (saw words.now S.held S.fails S.misses S.faults shelf.old shelf.new K.written K.faults out.old out.new) result }
     ensures accepts { TellsAccepted (saw words.now S.held S.fails S.misses S.faults shelf.old shelf.new K.written K.faults out.old out.new) result }
 
     // All of it: which reply, with which cause, was written whole, cut, or in whole pieces.
@@ -96,6 +96,7 @@ fn work(alloc: Global, job: &Job) -> Result<Reply, Memory>
     match &job.task {
         Task::Solve { nodes } => solve(alloc, job, *nodes),
         Task::Check { answer } => audit(alloc, job, answer),
+        Task::Evaluate { answer } => tell_of(alloc, job, answer),
     }
 }
 
@@ -107,10 +108,7 @@ fn solve(alloc: Global, job: &Job, nodes: u32) -> Result<Reply, Memory>
 {
     match answer_listed(alloc, &job.query, &job.tables, &job.columns, nodes) {
         Ok(answer) => Ok(Reply::Answered(answer)),
-        Err(PointFault::Eval(EvalFault::Wide { source, number })) => {
-            too_wide(alloc, &job.query, source, number)
-        }
-        Err(PointFault::Memory) => Err(Memory),
+        Err(fault) => Ok(Reply::TooLarge(excess_of(alloc, &job.query, fault)?)),
     }
 }
 
@@ -123,37 +121,25 @@ fn audit(alloc: Global, job: &Job, answer: &Answer) -> Result<Reply, Memory>
     match check_listed(alloc, &job.query, &job.tables, &job.columns, answer) {
         Ok(()) => Ok(Reply::Accepted(objective_of(&answer.verdict))),
         Err(CheckFault::Rejected { reason, part, node }) => Ok(Reply::Rejected(reason, part, node)),
-        Err(CheckFault::Wide { source, number }) => too_wide(alloc, &job.query, source, number),
+        Err(CheckFault::Wide { source, number }) => {
+            let fault = EvalFault::Wide { source, number };
+            Ok(Reply::TooLarge(excess_of(alloc, &job.query, fault)?))
+        }
+        Err(CheckFault::TooManyRows { view, limit }) => {
+            let fault = EvalFault::TooManyRows { view, limit };
+            Ok(Reply::TooLarge(excess_of(alloc, &job.query, fault)?))
+        }
         Err(CheckFault::Memory) => Err(Memory),
     }
 }
 
-/// The reply to a value that is too large over a relation.
-fn too_wide(alloc: Global, query: &Query, source: Source, number: i128) -> Result<Reply, Memory>
-    ensures { IfOk result (λ reply. reply ≡ Reply.TooWide (causes.name_of query.now source) number) }
+/// Evaluates an answer to a job.
+fn tell_of(alloc: Global, job: &Job, answer: &Answer) -> Result<Reply, Memory>
+    requires ready { IsReady job.now }
+    ensures { IfOk result (IsEvaluated job.now answer.now) }
 {
-    let name = name_of(alloc, query, source)?;
-    Ok(Reply::TooWide { name, number })
-}
-
-/// The name of a relation.
-#[tactic(auto, unfolding(crate::specs::Causes::name_of))]
-fn name_of(alloc: Global, query: &Query, source: Source) -> Result<List<u8>, Memory>
-    ensures { IfOk result (λ name. name ≡ causes.name_of query.now source) }
-{
-    let name = match source {
-        Source::Table(number) => query
-            .tables
-            .get(number as usize)
-            .map(|table| table.name.as_str()),
-        Source::Hypo(number) => query
-            .hypos
-            .get(number as usize)
-            .map(|hypo| hypo.name.as_str()),
-        Source::View(number) => query
-            .views
-            .get(number as usize)
-            .map(|view| view.name.as_str()),
-    };
-    Ok(List::from_slice(alloc, name.unwrap_or("").as_bytes())?)
+    match evaluate(alloc, &job.query, &job.tables, &job.columns, answer) {
+        Ok(told) => Ok(Reply::Evaluated(told)),
+        Err(fault) => Ok(Reply::TooLarge(excess_of(alloc, &job.query, fault)?)),
+    }
 }

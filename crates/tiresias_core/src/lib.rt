@@ -2,6 +2,7 @@
 #![tactic(auto)]
 
 mod engine;
+mod excess;
 mod line;
 mod refusal;
 mod reply;

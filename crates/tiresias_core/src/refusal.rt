@@ -19,7 +19,6 @@ pub(crate) fn refusal_status(why: &Refusal) -> Status
         Refusal::File { .. } => Status::Read,
         Refusal::Syntax(_) => Status::Query,
         Refusal::Unsound(_) => Status::Query,
-        Refusal::NotBuilt { .. } => Status::Query,
         Refusal::Table { .. } => Status::Tables,
         Refusal::EmptyBounds { .. } => Status::Tables,
         Refusal::TooWide { .. } => Status::Size,
@@ -39,9 +38,6 @@ pub(crate) fn refusal_line(alloc: Global, why: &Refusal) -> Result<List<u8>, Mem
         Refusal::File { name, why } => file_line(alloc, name.as_slice(), *why),
         Refusal::Syntax(place) => line_at(alloc, "syntax", *place),
         Refusal::Unsound(fault) => rule_line(alloc, *fault),
-        Refusal::NotBuilt { name } => {
-            named_line(alloc, "refused: not built ", name.as_slice(), "")
-        }
         Refusal::Table { table, why } => table_line(alloc, table.as_slice(), *why),
         Refusal::EmptyBounds { hypo, row } => {
             let behind = format!(in alloc; " {row}")?;

@@ -4,13 +4,15 @@ ghost use Rattle.std.specs.Prelude.{◌≡◌, IfOk};
 ghost use Rattle.tiresias_core.specs.Replies as spec;
 ghost use Rattle.tiresias_core.specs.Verdicts as verdicts;
 
+use crate::excess::{Excess, excess_line};
 use crate::line::line_of;
-use crate::refusal::{refusal_line, refusal_status, wide_line};
+use crate::refusal::{refusal_line, refusal_status};
 use answer_text::{Answer, Verdict, write_answer};
-use base_kit::{List, Memory, Status};
+use base_kit::{Duplicate, List, Memory, Status};
 use cert_check::Reject;
 use job_intake::Refusal;
 use std::alloc::Global;
+use world_eval::Evaluation;
 
 /// The reply to a command.
 #[derive(Debug, Drop)]
@@ -19,12 +21,14 @@ pub(crate) enum Reply {
     Refused(Refusal),
     /// The query is answered.
     Answered(Answer),
-    /// A value over the relation of this name is above 10^17 in size in a world that was looked at.
-    TooWide { name: List<u8>, number: i128 },
+    /// This passes in a world that was looked at.
+    TooLarge(Excess),
     /// The checked answer is valid; the objective where it is optimal.
     Accepted(Option<i64>),
     /// The checked answer is not valid: the first reason, with its part and node.
     Rejected(Reject, u32, u32),
+    /// The answer is evaluated.
+    Evaluated(Evaluation),
 }
 
 /// The status of a reply.
@@ -34,9 +38,20 @@ pub(crate) fn status_of(reply: &Reply) -> Status
     match reply {
         Reply::Refused(why) => refusal_status(why),
         Reply::Answered(answer) => verdict_status(&answer.verdict),
-        Reply::TooWide { .. } => Status::Size,
+        Reply::TooLarge(_) => Status::Size,
         Reply::Accepted(_) => Status::Done,
         Reply::Rejected(_, _, _) => Status::Rejected,
+        Reply::Evaluated(told) => evaluation_status(told),
+    }
+}
+
+/// The status of an evaluation: the world is possible and meets, or not.
+fn evaluation_status(told: &Evaluation) -> Status
+    ensures { result ≡ spec.evaluation_status told.now }
+{
+    match told {
+        Evaluation::NoWorld => Status::Rejected,
+        Evaluation::Told { met, .. } => { if *met { Status::Done } else { Status::Rejected } }
     }
 }
 
@@ -59,9 +74,20 @@ pub(crate) fn text_of(alloc: Global, reply: &Reply) -> Result<List<u8>, Memory>
     match reply {
         Reply::Refused(why) => refusal_line(alloc, why),
         Reply::Answered(answer) => write_answer(alloc, answer),
-        Reply::TooWide { name, number } => wide_line(alloc, name.as_slice(), *number),
+        Reply::TooLarge(told) => excess_line(alloc, told),
         Reply::Accepted(objective) => accepted_line(alloc, *objective),
         Reply::Rejected(reason, part, node) => rejected_line(alloc, *reason, *part, *node),
+        Reply::Evaluated(told) => evaluation_text(alloc, told),
+    }
+}
+
+/// The text of an evaluation.
+fn evaluation_text(alloc: Global, told: &Evaluation) -> Result<List<u8>, Memory>
+    ensures { IfOk result (λ text. text ≡ spec.evaluation_text told.now) }
+{
+    match told {
+        Evaluation::NoWorld => line_of(alloc, "rejected: no world 0 0"),
+        Evaluation::Told { text, .. } => text.copy(alloc),
     }
 }
 

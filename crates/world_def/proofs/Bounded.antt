@@ -11,10 +11,10 @@ use Rattle.tiql_query.specs.declared.query.Query.{Query}
 use Rattle.tiql_query.specs.declared.world_column.WorldColumn.{WorldColumn}
 use Rattle.world_def.specs.declared.fault.BoundsFault.{BoundsFault}
 use Rattle.world_def.specs.declared.fault.BoundsFault.TheVariants as fault
-use Rattle.world_def.specs.Asked.{asked}
+use Rattle.row_values.specs.Asked.{asked}
 use Rattle.world_def.specs.Turns.{turns}
 use Rattle.world_def.specs.Columns.{Rows, Tables, rows_of, told, inside, bound_asked, cell_column, presence_column, with_column, with_presence, with_cell, with_row, with_hypo, columns_of}
-use Rattle.world_def.proofs.Agreed.{and_then-Ok, same_answer}
+use Rattle.row_values.proofs.Agreed.{and_then-Ok, same_answer}
 use Rattle.world_def.proofs.Choices.{column_told, unless_Ok}
 
 -- a column's bounds

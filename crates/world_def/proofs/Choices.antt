@@ -9,15 +9,15 @@ use Rattle.tiql_query.specs.declared.relation.QBound.{QBound}
 use Rattle.tiql_query.specs.declared.relation.QHypo.{QHypo}
 use Rattle.tiql_query.specs.declared.query.Query.{Query}
 use Rattle.tiql_query.specs.declared.world_column.WorldColumn.{WorldColumn}
-use Rattle.world_def.specs.declared.fault.Wide.{Wide}
+use Rattle.row_values.specs.declared.fault.Wide.{Wide}
 use Rattle.world_def.specs.declared.fault.BoundsFault.{BoundsFault}
 use Rattle.world_def.specs.declared.fault.BoundsFault.TheVariants as fault
-use Rattle.world_def.specs.Values.{number, value}
-use Rattle.world_def.specs.Asked.{asked, truth_asked}
+use Rattle.row_values.specs.Values.{number, value}
+use Rattle.row_values.specs.Asked.{asked, truth_asked}
 use Rattle.world_def.specs.Turns.{turns}
 use Rattle.world_def.specs.Columns.{GivesColumns, Rows, Tables, rows_of, told, inside, bound_asked, cell_column, presence_column, with_column, with_presence, with_cell, with_row, with_hypo, columns_of}
 use Rattle.world_def.specs.Meaning.{may_change, cell_choice, presence_choice, choices, rows_choices, all_choices}
-use Rattle.world_def.proofs.Agreed.{and_then-Ok, same_answer, agreed, truth_agreed}
+use Rattle.row_values.proofs.Agreed.{and_then-Ok, same_answer, agreed, truth_agreed}
 
 append_nil : {A : Type 0} (xs : List A) → xs ++ [] ≡ xs
 append_nil [] = refl

@@ -20,7 +20,7 @@ use Rattle.tiql_query.specs.declared.query.Query.{Query}
 use Rattle.tiql_query.specs.declared.world_column.WorldColumn.{WorldColumn}
 use Rattle.world_def.specs.declared.world.World.{World}
 use Rattle.world_def.specs.declared.world.WorldTable.{WorldTable}
-use Rattle.world_def.specs.Values.{number}
+use Rattle.row_values.specs.Values.{number}
 use Rattle.world_def.specs.Columns.{Rows, Tables, rows_of}
 use Rattle.world_def.specs.Worlds.{standing, count_of, is_cell, column_at, is_equal, fits_cell, row_fits, row_possible, number_in, rows_numbers, world_numbers, with_number, row_with, is_left_out, put_row, no_rows, rows_at, tables_at, are_none}
 use Rattle.world_def.specs.Meaning.{may_change, cell_choice, presence_choice, choices, rows_choices, all_choices, rows_can, table_can, tables_can, IsPossible}

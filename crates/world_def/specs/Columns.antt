@@ -8,10 +8,10 @@ use Rattle.tiql_query.specs.declared.relation.QBound.{QBound}
 use Rattle.tiql_query.specs.declared.relation.QHypo.{QHypo}
 use Rattle.tiql_query.specs.declared.query.Query.{Query}
 use Rattle.tiql_query.specs.declared.world_column.WorldColumn.{WorldColumn}
-use Rattle.world_def.specs.declared.fault.Wide.{Wide}
+use Rattle.row_values.specs.declared.fault.Wide.{Wide}
 use Rattle.world_def.specs.declared.fault.BoundsFault.{BoundsFault}
 use Rattle.world_def.specs.declared.fault.BoundsFault.TheVariants as fault
-use Rattle.world_def.specs.Asked.{asked, truth_asked}
+use Rattle.row_values.specs.Asked.{asked, truth_asked}
 use Rattle.world_def.specs.Turns.{turns}
 
 -- the rows of one table

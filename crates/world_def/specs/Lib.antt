@@ -1,9 +1,10 @@
-pub mod Asked
 pub mod Best
 pub mod Columns
 pub mod Judging
+pub mod Made
+pub mod Making
 pub mod Meaning
-pub mod Steps
+pub mod Relations
 pub mod Turns
-pub mod Values
+pub mod Views
 pub mod Worlds

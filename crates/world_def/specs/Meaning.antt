@@ -1,9 +1,10 @@
--- the worlds of a query without views: which are possible, which meet it, their scores, and the best of them
+-- the worlds of a query: which are possible, which meet it, their scores, and the best of them
 use Rattle.std.specs.Prelude.{◌≡◌, ℕ, ℤ, pos, ◌+◌, ◌<◌, ◌==◌, ◌<ℤ◌, Bool, true, false, ◌&&◌, IsTrue, if◌then◌else◌, List, [], ◌∷◌, ◌++◌, map, drop, length, Option, Some, None, slice_get}
 use Rattle.std.specs.List.{list_all, list_any}
 use Rattle.base_kit.specs.declared.value.Value.{Value}
 use Rattle.tiql_query.specs.declared.condition.Cond.{Cond}
 use Rattle.tiql_query.specs.declared.relation.QBound.{QBound}
+use Rattle.tiql_query.specs.declared.relation.Source.{Source}
 use Rattle.tiql_query.specs.declared.relation.QHypo.{QHypo}
 use Rattle.tiql_query.specs.declared.aim.Require.{Require}
 use Rattle.tiql_query.specs.declared.aim.Require.TheVariants as needs
@@ -14,9 +15,10 @@ use Rattle.tiql_query.specs.declared.world_column.WorldColumn.{WorldColumn}
 use Rattle.world_def.specs.declared.world.World.{World}
 use Rattle.world_def.specs.declared.world.WorldTable.{WorldTable}
 use Rattle.world_def.specs.Best as best
-use Rattle.world_def.specs.Values.{number, total, value, truth}
+use Rattle.row_values.specs.Values.{number, total, value, truth}
 use Rattle.world_def.specs.Columns.{Rows, Tables, rows_of, presence_column}
-use Rattle.world_def.specs.Judging.{rows_in, source_of}
+use Rattle.world_def.specs.Relations.{rows_in}
+use Rattle.world_def.specs.Judging.{source_of}
 use Rattle.world_def.specs.Worlds.{standing, count_of, row_possible, are_none, number_in}
 
 -- whether a row of the table may change; without a condition every row may
@@ -100,14 +102,26 @@ is_met (needs.All source test) rows = list_all (λ row. truth (row ∷ []) test)
 is_met (needs.Some source test) rows = list_any (λ row. truth (row ∷ []) test) rows
 is_met (needs.None source) rows = are_none rows
 
+-- whether each requirement holds of the rows of its relation
+abbrev pub meets : Query → Tables → World → Bool
+meets query tables world = list_all (λ need. is_met need (rows_in query tables world (source_of need))) query.requires_
+
 -- each requirement holds of the rows of its relation
 abbrev pub Meets : Query → Tables → World → Type 0
-Meets query tables world = IsTrue (list_all (λ need. is_met need (rows_in tables world (source_of need))) query.requires_)
+Meets query tables world = IsTrue (meets query tables world)
 
 -- the sum of the goal's expression over the rows of its relation, and 0 for FIND
-unfoldable pub score : Aim → Tables → World → ℤ
-score aims.Find tables world = pos 0
-score (aims.Sum maximize source part) tables world = total (map (λ row. number (value (row ∷ []) part)) (rows_in tables world source))
+abbrev pub score_by : Aim → (Source → Rows) → ℤ
+score_by aims.Find rows = pos 0
+score_by (aims.Sum maximize source part) rows = total (map (λ row. number (value (row ∷ []) part)) (rows source))
+
+-- the score of a world
+unfoldable pub score : Query → Tables → World → ℤ
+score query tables world = score_by query.aim (rows_in query tables world)
+
+-- the score of a world that meets
+unfoldable pub score_met : Query → Tables → World → Option ℤ
+score_met query tables world = if meets query tables world then Some (score query tables world) else None
 
 -- the greater score is better under MAXIMIZE, the lesser under MINIMIZE
 abbrev pub better_by : Bool → ℤ → ℤ → Type 0
@@ -121,7 +135,7 @@ Better (aims.Sum maximize source part) one other = better_by maximize one other
 
 -- the world is possible and meets, and no possible world that meets is better
 abbrev pub IsBest : Query → Tables → World → Type 0
-IsBest query tables world = best.IsBest (IsPossible query tables) (Meets query tables) (score query.aim tables) (Better query.aim) world
+IsBest query tables world = best.IsBest (IsPossible query tables) (Meets query tables) (score query tables) (Better query.aim) world
 
 -- no possible world meets
 abbrev pub NoneMeets : Query → Tables → Type 0

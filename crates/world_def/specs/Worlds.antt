@@ -10,7 +10,7 @@ use Rattle.base_kit.specs.declared.value.Value.TheVariants.{Int, Text}
 use Rattle.tiql_query.specs.declared.relation.QHypo.{QHypo}
 use Rattle.tiql_query.specs.declared.world_column.WorldColumn.{WorldColumn}
 use Rattle.world_def.specs.declared.world.WorldTable.{WorldTable}
-use Rattle.world_def.specs.Values.{number}
+use Rattle.row_values.specs.Values.{number}
 use Rattle.world_def.specs.Columns.{Rows, Tables, rows_of}
 
 -- how many columns there are up to the first that is not so

@@ -5,10 +5,9 @@ ghost use Rattle.world_def.specs.Columns as spec;
 ghost use Rattle.world_def.specs.Meaning.{all_choices};
 ghost use Rattle.world_def.specs.Turns.{turns};
 
-use crate::condition::truth;
-use crate::expression::number;
 use crate::fault::BoundsFault;
 use base_kit::{List, Row};
+use row_values::{number, truth};
 use std::alloc::Global;
 use tiql_query::{Cond, Expr, QBound, QHypo, Query, WorldColumn};
 

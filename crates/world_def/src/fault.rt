@@ -5,25 +5,50 @@ use std::alloc::AllocError;
 use thiserror::Error;
 use tiql_query::Source;
 
-/// A value passes 10^17 in size (docs/MEANING.md, "The number told").
-#[derive(Clone, Copy, Debug, PartialEq, Eq, Error)]
-#[error("a value passes 10^17 in size")]
-pub struct Wide {
-    /// The first asked value that passes; of a product its first partial product from the left that does.
-    pub number: i128,
-}
-
 /// Why a world was not judged.
 #[derive(Clone, Copy, Debug, PartialEq, Eq, Error)]
 pub enum EvalFault {
     /// A value passes 10^17 in size.
     #[error("a value passes 10^17 in size")]
     Wide {
-        /// The relation whose condition or goal asked for it.
+        /// The view in whose select it came, or the relation whose condition or goal asked for it.
         source: Source,
         /// The value.
         number: i128,
     },
+    /// A select has more combinations that meet its equalities, or a select or a view has more rows, than are allowed.
+    #[error("there are more than {limit} rows")]
+    TooManyRows {
+        /// The number of the view, from 0.
+        view: u32,
+        /// 10,000,000 combinations, or 200,000 rows.
+        limit: u32,
+    },
+    /// Out of memory.
+    #[error("out of memory")]
+    Memory,
+}
+
+impl From<Memory> for EvalFault {
+    ghost use Rattle.std.specs.Prelude.{◌≡◌};
+    ghost use Rattle.world_def.specs.declared.fault.EvalFault.{EvalFault};
+
+    ghost from_gives = { λ _ told. told ≡ EvalFault.Memory };
+
+    fn from(_fault: Memory) -> EvalFault {
+        EvalFault::Memory
+    }
+}
+
+impl From<AllocError> for EvalFault {
+    ghost use Rattle.std.specs.Prelude.{◌≡◌};
+    ghost use Rattle.world_def.specs.declared.fault.EvalFault.{EvalFault};
+
+    ghost from_gives = { λ _ told. told ≡ EvalFault.Memory };
+
+    fn from(_fault: AllocError) -> EvalFault {
+        EvalFault::Memory
+    }
 }
 
 /// Why a query has no world columns.

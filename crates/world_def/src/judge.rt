@@ -1,16 +1,19 @@
 //! Whether a world meets what a query requires, and its score.
 
-ghost use Rattle.std.specs.Prelude.{◌≡◌, ◌≤◌, ◌<◌, ◌^◌, ◌↔◌, length, All, map, Ok, IfOk, IsTrue, is_none, unsigned_abs};
-ghost use Rattle.world_def.specs.Columns as columns;
+ghost use Rattle.std.specs.Prelude.{◌≡◌, ◌≤◌, ◌<◌, ◌^◌, ◌↔◌, ◌≢◌, length, All, map, Ok, Err, Result, IfOk, IsTrue, is_none, IfSome, unsigned_abs};
+ghost use Rattle.tiql_query.specs.WellFormed.{IsWellFormed};
 ghost use Rattle.world_def.specs.Judging as spec;
+ghost use Rattle.world_def.specs.Made.{AreMade, Keeps};
 ghost use Rattle.world_def.specs.Meaning as meaning;
+ghost use Rattle.world_def.specs.Views.{Gives};
 
-use crate::columns::{Tables, rows_of};
-use crate::condition::truth;
-use crate::expression::{number, within};
-use crate::fault::{EvalFault, Wide};
+use crate::columns::Tables;
+use crate::fault::EvalFault;
+use crate::views::{Views, make, none_made, rows_at};
 use crate::world::World;
 use base_kit::Row;
+use row_values::{Wide, number, truth, within};
+use std::alloc::Global;
 use tiql_query::{Aim, Cond, Expr, Query, Require, Source};
 
 /// Where a world does not meet what is required.
@@ -23,29 +26,71 @@ pub struct Broken {
 }
 
 /// The first requirement that a world breaks, and `None` where it meets the query (docs/MEANING.md, "Meets").
-///
-/// The query has no view.
-pub fn meets(query: &Query, tables: &Tables, world: &World) -> Result<Option<Broken>, EvalFault>
+pub fn meets(
+    alloc: Global,
+    query: &Query,
+    tables: &Tables,
+    world: &World,
+) -> Result<Option<Broken>, EvalFault>
+    requires fit { IsWellFormed query.now }
     requires small { spec.IsSmallWorld tables.now world.now }
     requires count { length query.now.requires_ < 4294967295 }
-    ensures told { result ≡ spec.broken_from tables.now world.now 1 query.now.requires_ }
+    ensures told { Gives (spec.broken_from query.now tables.now world.now 1 query.now.requires_) result }
     ensures met { IfOk result (λ found. IsTrue (is_none found) ↔ meaning.Meets query.now tables.now world.now) }
 {
-    first_of(query.requires_.as_slice(), tables, world)
+    let mut views = none_made(alloc, query)?;
+    first_of(alloc, query, tables, world, &mut views)
+}
+
+/// The score of a world that meets the query, and `None` where it does not; each view is made once (docs/MEANING.md, "Score").
+pub fn score_met(
+    alloc: Global,
+    query: &Query,
+    tables: &Tables,
+    world: &World,
+) -> Result<Option<i128>, EvalFault>
+    requires fit { IsWellFormed query.now }
+    requires small { spec.IsSmallWorld tables.now world.now }
+    requires count { length query.now.requires_ < 4294967295 }
+    ensures told { Gives (spec.judged query.now tables.now world.now) result }
+    ensures value { IfOk result (λ score. score ≡ meaning.score_met query.now tables.now world.now) }
+    ensures small { IfOk result (λ score. IfSome score (λ n. unsigned_abs n ≤ 10 ^ 17)) }
+{
+    let mut views = none_made(alloc, query)?;
+    match first_of(alloc, query, tables, world, &mut views)? {
+        Some(_) => Ok(None),
+        None => {
+            let score = score_for(alloc, query, tables, world, &mut views)?;
+            Ok(Some(score))
+        }
+    }
 }
 
 /// The first of the requirements that a world breaks.
 fn first_of(
-    requirements: &[Require],
+    alloc: Global,
+    query: &Query,
     tables: &Tables,
     world: &World,
+    views: &mut Views,
 ) -> Result<Option<Broken>, EvalFault>
+    requires fit { IsWellFormed query.now }
     requires small { spec.IsSmallWorld tables.now world.now }
-    requires count { length requirements.now < 4294967295 }
-    ensures { result ≡ spec.broken_from tables.now world.now 1 requirements.now }
+    requires made { AreMade query.now tables.now world.now views.old.made.items }
+    requires count { length query.now.requires_ < 4294967295 }
+    ensures told { Gives (spec.broken_from query.now tables.now world.now 1 query.now.requires_) result }
+    ensures made { Keeps query.now tables.now world.now views.new.made.items result }
 {
-    for (at, requirement) in requirements.iter().enumerate() {
-        let found = broken_at(at as u32 + 1, requirement, tables, world)?;
+    for (at, requirement) in query.requires_.as_slice().iter().enumerate() {
+        let found = broken_at(
+            alloc,
+            query,
+            tables,
+            world,
+            views,
+            at as u32 + 1,
+            requirement,
+        )?;
         if found.is_some() {
             return Ok(found);
         }
@@ -56,16 +101,23 @@ fn first_of(
 /// A requirement, where a world breaks it.
 #[tactic(auto, unfolding(crate::specs::Judging::broken_at))]
 fn broken_at(
-    number: u32,
-    requirement: &Require,
+    alloc: Global,
+    query: &Query,
     tables: &Tables,
     world: &World,
+    views: &mut Views,
+    number: u32,
+    requirement: &Require,
 ) -> Result<Option<Broken>, EvalFault>
-    requires { spec.IsSmallWorld tables.now world.now }
-    ensures { result ≡ spec.broken_at tables.now world.now number requirement.now }
+    requires fit { IsWellFormed query.now }
+    requires small { spec.IsSmallWorld tables.now world.now }
+    requires made { AreMade query.now tables.now world.now views.old.made.items }
+    ensures told { Gives (spec.broken_at query.now tables.now world.now number requirement.now) result }
+    ensures made { Keeps query.now tables.now world.now views.new.made.items result }
 {
     let source = source_of(requirement);
-    match broken_row(requirement, rows_in(tables, world, source)) {
+    make(alloc, query, tables, world, views, source)?;
+    match broken_row(requirement, rows_at(tables, world, views, source)) {
         Ok(Some(row)) => Ok(Some(Broken {
             requirement: number,
             row,
@@ -85,33 +137,6 @@ fn source_of(requirement: &Require) -> Source
         Require::All(source, _) => *source,
         Require::Some(source, _) => *source,
         Require::None(source) => *source,
-    }
-}
-
-/// The rows of a relation that is no view, in a world.
-#[tactic(auto, unfolding(crate::specs::Judging::rows_in, crate::specs::Columns::rows_of))]
-fn rows_in<'a>(tables: &'a Tables, world: &'a World, source: Source) -> &'a [Row]
-    requires { spec.IsSmallWorld tables.now world.now }
-    ensures value { result.now ≡ spec.rows_in tables.now world.now source }
-    ensures small { length result.now ≤ 200000 }
-{
-    match source {
-        Source::Table(number) => rows_of(tables, number),
-        Source::Hypo(number) => world_rows(world, number),
-        Source::View(_) => &[],
-    }
-}
-
-/// The rows of a hypothetical table in a world, and none where it is not there.
-#[tactic(auto, unfolding(crate::specs::Columns::rows_of))]
-fn world_rows(world: &World, number: u32) -> &[Row]
-    requires { All (λ table. length table.rows ≤ 200000) world.now.tables }
-    ensures value { result.now ≡ columns.rows_of (map (λ table. table.rows) world.now.tables) number }
-    ensures small { length result.now ≤ 200000 }
-{
-    match world.tables.get(number as usize) {
-        Some(table) => table.rows.as_slice(),
-        None => &[],
     }
 }
 
@@ -171,36 +196,52 @@ fn none_of(rows: &[Row]) -> Option<u32>
 
 /// The score of a world: the sum of the goal's expression over the rows of its relation, and 0 for FIND
 /// (docs/MEANING.md, "Score").
-///
-/// The query has no view.
-pub fn score(query: &Query, tables: &Tables, world: &World) -> Result<i128, EvalFault>
-    requires { spec.IsSmallWorld tables.now world.now }
-    ensures told { result ≡ spec.score_asked tables.now world.now query.now.aim }
+pub fn score(
+    alloc: Global,
+    query: &Query,
+    tables: &Tables,
+    world: &World,
+) -> Result<i128, EvalFault>
+    requires fit { IsWellFormed query.now }
+    requires small { spec.IsSmallWorld tables.now world.now }
+    ensures told { Gives (spec.score_asked query.now tables.now world.now query.now.aim) result }
     ensures small { IfOk result (λ n. unsigned_abs n ≤ 10 ^ 17) }
-    ensures score { IfOk result (λ n. n ≡ meaning.score query.now.aim tables.now world.now) }
+    ensures score { IfOk result (λ n. n ≡ meaning.score query.now tables.now world.now) }
 {
-    score_for(&query.aim, tables, world)
+    let mut views = none_made(alloc, query)?;
+    score_for(alloc, query, tables, world, &mut views)
 }
 
 #[tactic(auto, unfolding(crate::specs::Judging::score_asked))]
-fn score_for(aim: &Aim, tables: &Tables, world: &World) -> Result<i128, EvalFault>
-    requires { spec.IsSmallWorld tables.now world.now }
-    ensures value { result ≡ spec.score_asked tables.now world.now aim.now }
+fn score_for(
+    alloc: Global,
+    query: &Query,
+    tables: &Tables,
+    world: &World,
+    views: &mut Views,
+) -> Result<i128, EvalFault>
+    requires fit { IsWellFormed query.now }
+    requires small { spec.IsSmallWorld tables.now world.now }
+    requires made { AreMade query.now tables.now world.now views.old.made.items }
+    ensures value { Gives (spec.score_asked query.now tables.now world.now query.now.aim) result }
     ensures small { IfOk result (λ n. unsigned_abs n ≤ 10 ^ 17) }
 {
-    match aim {
+    match &query.aim {
         Aim::Find => Ok(0),
         Aim::Sum {
             maximize: _,
             source,
             part,
-        } => match sum_over(part, rows_in(tables, world, *source)) {
-            Ok(sum) => Ok(i128::from(sum)),
-            Err(wide) => Err(EvalFault::Wide {
-                source: *source,
-                number: wide.number,
-            }),
-        },
+        } => {
+            make(alloc, query, tables, world, views, *source)?;
+            match sum_over(part, rows_at(tables, world, views, *source)) {
+                Ok(sum) => Ok(i128::from(sum)),
+                Err(wide) => Err(EvalFault::Wide {
+                    source: *source,
+                    number: wide.number,
+                }),
+            }
+        }
     }
 }
 

@@ -2,20 +2,19 @@
 #![tactic(auto)]
 
 mod columns;
-mod condition;
-mod expression;
 mod fault;
 mod judge;
+mod marks;
 mod numbers;
 mod part;
+mod views;
 mod world;
 mod worlds;
 
 pub use columns::{Tables, rows_of, world_columns};
-pub use condition::truth;
-pub use expression::number;
-pub use fault::{BoundsFault, EvalFault, Wide};
-pub use judge::{Broken, meets, score};
+pub use fault::{BoundsFault, EvalFault};
+pub use judge::{Broken, meets, score, score_met};
 pub use numbers::{numbers_of, world_at};
+pub use views::view_rows;
 pub use world::{World, WorldTable};
 pub use worlds::is_possible;

@@ -1,6 +1,6 @@
 -- How large what a listing holds may be: its columns, and the costs of its worlds.
 use Rattle.std.proofs.Common.{◌≡◌, ℕ, ◌+◌, ◌<◌, ◌≤◌, ◌^◌, ℤ, pos, Bool, true, false, List, [], ◌∷◌, ◌++◌, length, map, refl, subst, arith, if◌then◌else◌, length-append}
-use Rattle.std.specs.Prelude.{Some, None, Result, Ok, Err, unsigned_abs, nat_lt, is_none}
+use Rattle.std.specs.Prelude.{Option, Some, None, option_map, Result, Ok, Err, unsigned_abs, nat_lt, is_none}
 use Rattle.std.proofs.lemmas.Bool.Decides.{nat_tests}
 use Rattle.std.proofs.lemmas.Int.{ints}
 use mir.Val.{SFits}
@@ -15,14 +15,16 @@ use Rattle.tiql_query.specs.declared.relation.QHypo.{QHypo}
 use Rattle.tiql_query.specs.declared.query.Query.{Query}
 use Rattle.tiql_query.specs.declared.world_column.WorldColumn.{WorldColumn}
 use Rattle.world_def.specs.declared.fault.BoundsFault.TheVariants as fault
-use Rattle.world_def.specs.declared.fault.Wide.{Wide}
+use Rattle.row_values.specs.declared.fault.Wide.{Wide}
 use Rattle.world_def.specs.declared.world.World.{World}
-use Rattle.world_def.specs.Asked.{asked, passes, within}
-use Rattle.world_def.specs.Values.{total}
+use Rattle.row_values.specs.Asked.{asked, passes, within}
+use Rattle.row_values.specs.Values.{total}
 use Rattle.world_def.specs.Columns.{Rows, Tables, cell_column, columns_of, inside, presence_column, rows_of, with_cell, with_column, with_hypo, with_presence, with_row}
-use Rattle.world_def.specs.Judging.{broken_from, named, rows_in, score_asked, sum_over}
+use Rattle.world_def.specs.Judging as judging
+use Rattle.world_def.specs.Judging.{broken_from, named, score_asked, sum_over}
+use Rattle.world_def.specs.Views.{rows_asked}
 use Rattle.world_def.specs.Turns.{turns}
-use Rattle.world_def.proofs.Agreed.{and_then-Ok, same_answer}
+use Rattle.row_values.proofs.Agreed.{and_then-Ok, same_answer}
 use Rattle.world_points.specs.Points.{is_of_world, judged, judged_at, world_at, cost}
 
 -- what each turn keeps, all keep
@@ -98,14 +100,30 @@ sum_small part rows n e =
     let both = and_then-Ok (all_of (map (λ row. asked (row ∷ []) part) rows)) (λ ns. within (total ns)) n e in
     within_small (total both.0) n both.2
 
-score_small : (aim : Aim) (tables : Tables) (world : World) (n : ℤ) → score_asked tables world aim ≡ Ok n → unsigned_abs n ≤ 10 ^ 17
+score_small : (query : Query) (tables : Tables) (world : World) (aim : Aim) (n : ℤ) → score_asked query tables world aim ≡ Ok n → unsigned_abs n ≤ 10 ^ 17
 unfolding score_asked
-score_small aims.Find tables world n e = subst (λ (k : ℤ). unsigned_abs k ≤ 10 ^ 17) (same_answer (pos 0) n e) (omega arith)
-score_small (aims.Sum maximize source part) tables world n e = by_sum (sum_over part (rows_in tables world source)) refl e
+score_small query tables world aims.Find n e = subst (λ (k : ℤ). unsigned_abs k ≤ 10 ^ 17) (same_answer (pos 0) n e) (omega arith)
+score_small query tables world (aims.Sum maximize source part) n e =
+    let both = and_then-Ok (rows_asked query tables world source) (λ rows. named source (sum_over part rows)) n e in
+    by_sum both.0 (sum_over part both.0) refl both.2
   where
-    by_sum : (r : Result ℤ Wide) → sum_over part (rows_in tables world source) ≡ r → named source r ≡ Ok n → unsigned_abs n ≤ 10 ^ 17
-    by_sum (Ok m) is h = subst (λ (k : ℤ). unsigned_abs k ≤ 10 ^ 17) (same_answer m n h) (sum_small part (rows_in tables world source) m is)
-    by_sum (Err wide) is h = cc
+    by_sum : (rows : Rows) (r : Result ℤ Wide) → sum_over part rows ≡ r → named source r ≡ Ok n → unsigned_abs n ≤ 10 ^ 17
+    by_sum rows (Ok m) is h = subst (λ (k : ℤ). unsigned_abs k ≤ 10 ^ 17) (same_answer m n h) (sum_small part rows m is)
+    by_sum rows (Err wide) is h = cc
+
+-- the score of a world that is not at fault
+scored_small : (query : Query) (tables : Tables) (world : World) (n : ℤ) → judging.judged query tables world ≡ Ok (Some n) → unsigned_abs n ≤ 10 ^ 17
+unfolding judging.judged
+scored_small query tables world n e =
+    let both = and_then-Ok (broken_from query tables world 1 query.requires_) (λ broken. if is_none broken then and_then (score_asked query tables world query.aim) (λ n. Ok (Some n)) else Ok None) (Some n) e in
+    by_test (is_none both.0) both.2
+  where
+    by_test : (b : Bool) → (if b then and_then (score_asked query tables world query.aim) (λ n. Ok (Some n)) else Ok None) ≡ Ok (Some n) → unsigned_abs n ≤ 10 ^ 17
+    by_test true h =
+        let score = and_then-Ok (score_asked query tables world query.aim) (λ n. Ok (Some n)) (Some n) h in
+        let same : score.0 ≡ n = let told = score.2 in cc in
+        subst (λ (k : ℤ). unsigned_abs k ≤ 10 ^ 17) same (score_small query tables world query.aim score.0 score.1)
+    by_test false h = cc
 
 cost_small : (aim : Aim) (n : ℤ) → unsigned_abs n ≤ 10 ^ 17 → unsigned_abs (cost aim n) ≤ 10 ^ 17
 unfolding cost
@@ -124,15 +142,14 @@ cost_back (aims.Sum false source part) n = refl
 pub judged_world_small : (query : Query) (tables : Tables) (world : World) (v : ℤ) → judged query tables world ≡ Ok (Some v) → unsigned_abs v ≤ 10 ^ 17
 unfolding judged
 judged_world_small query tables world v e =
-    let both = and_then-Ok (broken_from tables world 1 query.requires_) (λ broken. if is_none broken then and_then (score_asked tables world query.aim) (λ n. Ok (Some (cost query.aim n))) else Ok None) (Some v) e in
-    by_test (is_none both.0) both.2
+    let both = and_then-Ok (judging.judged query tables world) (λ score. Ok (option_map (cost query.aim) score)) (Some v) e in
+    by_score both.0 both.1 (same_answer (option_map (cost query.aim) both.0) (Some v) both.2)
   where
-    by_test : (b : Bool) → (if b then and_then (score_asked tables world query.aim) (λ n. Ok (Some (cost query.aim n))) else Ok None) ≡ Ok (Some v) → unsigned_abs v ≤ 10 ^ 17
-    by_test true h =
-        let score = and_then-Ok (score_asked tables world query.aim) (λ n. Ok (Some (cost query.aim n))) (Some v) h in
-        let same : cost query.aim score.0 ≡ v = let told = score.2 in cc in
-        subst (λ (k : ℤ). unsigned_abs k ≤ 10 ^ 17) same (cost_small query.aim score.0 (score_small query.aim tables world score.0 score.1))
-    by_test false h = cc
+    by_score : (score : Option ℤ) → judging.judged query tables world ≡ Ok score → option_map (cost query.aim) score ≡ Some v → unsigned_abs v ≤ 10 ^ 17
+    by_score None is h = absurd (let k : ◌≡◌ {A = Option ℤ} None (Some v) = h in cc)
+    by_score (Some n) is h =
+        let same : cost query.aim n ≡ v = cc in
+        subst (λ (k : ℤ). unsigned_abs k ≤ 10 ^ 17) same (cost_small query.aim n (scored_small query tables world n is))
 
 pub judged_small : (query : Query) (tables : Tables) (columns : List WorldColumn) (point : List ℤ) (v : ℤ) → judged_at query tables columns point ≡ Ok (Some v) → unsigned_abs v ≤ 10 ^ 17
 unfolding judged_at

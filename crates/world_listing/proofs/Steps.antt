@@ -14,9 +14,7 @@ use Rattle.branch_tree.proofs.Columns.{open_within, width, narrower, low_narrow,
 use Rattle.branch_tree.proofs.Trees.{length-preorder, pending_of-le-worked_of}
 use Rattle.branch_tree.proofs.Closing.{closes_kept, none_worked}
 use Rattle.world_def.specs.declared.fault.EvalFault.{EvalFault}
-use Rattle.world_points.specs.declared.fault.PointFault.{PointFault}
-use Rattle.world_points.specs.declared.fault.PointFault.TheVariants as fault
-use Rattle.world_points.specs.Points.{GivesCost}
+use Rattle.world_def.specs.Views.{Gives}
 use Rattle.world_listing.specs.declared.search.Search.{Search}
 use Rattle.world_listing.specs.declared.search.Found.{Found}
 use Rattle.branch_tree.specs.Faults.{fault_of, or_later}
@@ -144,31 +142,28 @@ module _ (value : List ℤ → Option ℤ) where
 
 -- where the search comes upon a fault: at a box of one point, in the low half, and in the high one
 module _ (judged : List ℤ → Result (Option ℤ) EvalFault) where
-  pub fault_point : (left : ℕ) (sides : List Bounds) (told : PointFault) → AreFixed sides → 0 < left → GivesCost {A = Option ℤ} (judged (lows sides)) (Err told) → FaultsAs judged left sides told
-  fault_point left sides (fault.Eval told) fixed paid is = record { tree = closed leaf.Fixed; listing = fixed; in_order = tt; within = omega (arith, paid); first = ap fault_of is }
-  fault_point left sides fault.Memory fixed paid is = tt
+  pub fault_point : (left : ℕ) (sides : List Bounds) (told : EvalFault) → AreFixed sides → 0 < left → Gives {A = Option ℤ} (judged (lows sides)) (Err told) → FaultsAs judged left sides told
+  fault_point left sides told fixed paid is = λ other. record { tree = closed leaf.Fixed; listing = fixed; in_order = tt; within = omega (arith, paid); first = ap fault_of (is other) }
 
-  pub fault_low : (left rest : ℕ) (sides : List Bounds) (column : ℕ) (at : ℤ) (told : PointFault) → IsFirstOpen sides column → IsMiddle (side_at sides column) at → 0 < left → rest ≡ left - 1 →
+  pub fault_low : (left rest : ℕ) (sides : List Bounds) (column : ℕ) (at : ℤ) (told : EvalFault) → IsFirstOpen sides column → IsMiddle (side_at sides column) at → 0 < left → rest ≡ left - 1 →
       FaultsAs judged rest (low_box sides column at) told → FaultsAs judged left sides told
-  fault_low left rest sides column at (fault.Eval told) first middle paid less low = record {
+  fault_low left rest sides column at told first middle paid less faults = λ other. let low = faults other in record {
     tree = split column at reason.Plain low.tree (closed leaf.Pending);
     listing = (first, middle, low.listing, tt);
     in_order = (low.in_order, tt, λ undone. refl);
     within = let within = low.within in omega (arith, within, paid, less);
     first = ap (λ (o : Option EvalFault). or_later o None) low.first;
   }
-  fault_low left rest sides column at fault.Memory first middle paid less low = tt
 
-  pub fault_high : (value : List ℤ → Option ℤ) (left : ℕ) (begun mid : Search) (sides : List Bounds) (column : ℕ) (at : ℤ) (told : PointFault) → IsFirstOpen sides column → IsMiddle (side_at sides column) at → 0 < left → begun.left ≡ left - 1 →
+  pub fault_high : (value : List ℤ → Option ℤ) (left : ℕ) (begun mid : Search) (sides : List Bounds) (column : ℕ) (at : ℤ) (told : EvalFault) → IsFirstOpen sides column → IsMiddle (side_at sides column) at → 0 < left → begun.left ≡ left - 1 →
       Works value judged (low_box sides column at) begun mid → FaultsAs judged mid.left (high_box sides column at) told → FaultsAs judged left sides told
-  fault_high value left begun mid sides column at (fault.Eval told) first middle paid less low high = record {
+  fault_high value left begun mid sides column at told first middle paid less low faults = λ other. let high = faults other in record {
     tree = split column at reason.Plain low.tree high.tree;
     listing = (first, middle, low.listing, high.listing);
     in_order = (low.in_order, high.in_order, λ undone. none_worked high.tree (let none = low.pending undone in let within = high.within in omega (arith, none, within)));
     within = let within = high.within in omega (arith, within, paid, less, low.spent);
     first = ap₂ or_later low.sound high.first;
   }
-  fault_high value left begun mid sides column at fault.Memory first middle paid less low high = tt
 
 -- the nodes of a search that began with none
 pub few_nodes : (value : List ℤ → Option ℤ) (judged : List ℤ → Result (Option ℤ) EvalFault) (sides : List Bounds) (before now : Search) → Works value judged sides before now → before.nodes ≡ [] → before.left < 2 ^ 31 → length now.nodes < 2 ^ 32

@@ -1,12 +1,11 @@
 -- From a listing to the answer that tells it.
 use Rattle.std.proofs.Common.{◌≡◌, ℕ, suc, ◌<◌, ℤ, ◌≤ℤ◌, List, [], ◌∷◌, length, Bool, true, false, refl, sym, ◌∙◌, ap, subst, arith, inl, inr, if◌then◌else◌}
 use Rattle.std.proofs.lemmas.Bool.{and_parts}
-use Rattle.std.specs.Prelude.{Option, Some, None, Result, Ok, Err, position, IsSome, ◌&&◌}
+use Rattle.std.specs.Prelude.{Option, Some, None, Ok, Err, position, IsSome, ◌&&◌}
 use Rattle.std.proofs.lemmas.Int.{ints}
 use Rattle.ip_rows.specs.declared.Bounds.{Bounds}
 use Rattle.branch_tree.specs.declared.node.Leaf.TheVariants as leaf
 use Rattle.branch_tree.specs.Tree.{Tree, closed, split, pending_of, pending_nodes}
-use Rattle.branch_tree.specs.Boxes.{low_box, high_box}
 use Rattle.branch_tree.specs.Listing.{InBox, AreFixed, Closes, HasLeaf, NoBetter, has_two, lows, is_done, open_columns}
 use Rattle.branch_tree.proofs.Trees.{pending_nodes-preorder}
 use Rattle.branch_tree.proofs.Covering.{covers, leaf_inside, leaf_value}
@@ -18,13 +17,11 @@ use Rattle.tiql_query.specs.declared.world_column.WorldColumn.{WorldColumn}
 use Rattle.world_def.specs.Columns.{Tables}
 use Rattle.world_def.specs.Meaning.{IsBest, NoneMeets, score}
 use Rattle.world_def.specs.declared.fault.EvalFault.{EvalFault}
-use Rattle.world_points.specs.Points.{GivesCost, is_of_world, judged, judged_at, root, cost_at, world_at, cost}
-use Rattle.world_points.specs.declared.fault.PointFault.{PointFault}
-use Rattle.world_points.specs.declared.fault.PointFault.TheVariants as fault
+use Rattle.world_def.specs.Views.{Gives}
+use Rattle.world_points.specs.Points.{is_of_world, judged, judged_at, root, cost_at, world_at, cost}
 use Rattle.world_points.specs.Subject.{IsSubject}
 use Rattle.branch_tree.specs.Faults.{fault_of}
 use Rattle.branch_tree.proofs.Faults.{leaf_judged}
-use Rattle.world_listing.specs.Faults.{FaultsAs}
 use Rattle.world_listing.specs.Parts.{AreParts, ArePartsFor, IsListed, IsOf, IsReached, IsOneSound, IsWhole, ListsFor, IsVerdictFor, TellsFault}
 use Rattle.world_listing.specs.Works.{IsFromLeaf, best_value}
 use Rattle.world_listing.specs.declared.search.Found.{Found}
@@ -101,13 +98,13 @@ module _ (query : Query) (tables : Tables) (columns : List WorldColumn) where
 
   -- an optimal answer with a best world
   pub tells_optimal : (budget : ℕ) (found : Found) (parts : List PartAnswer) (told : Verdict) → IsOf query tables columns found parts told →
-      IsBest query tables (world_at query tables columns found.point) × (found.cost ≡ cost query.aim (score query.aim tables (world_at query tables columns found.point))) →
+      IsBest query tables (world_at query tables columns found.point) × (found.cost ≡ cost query.aim (score query tables (world_at query tables columns found.point))) →
       judged_at query tables columns found.point ≡ Ok (Some found.cost) →
       AreParts query tables columns budget (Some found.cost) parts → IsVerdictFor query tables columns budget told
   tells_optimal budget found parts (verdict.Optimal objective worlds listed) is best sound whole = record {
     world = world_at query tables columns found.point;
     best = best.0;
-    score = is.0 ∙ ap (cost query.aim) best.1 ∙ cost_back query.aim (score query.aim tables (world_at query tables columns found.point));
+    score = is.0 ∙ ap (cost query.aim) best.1 ∙ cost_back query.aim (score query tables (world_at query tables columns found.point));
     sound = world_judged found.point found.cost sound ∙ ap (λ (v : ℤ). Ok (Some v)) (sym (ap (cost query.aim) is.0 ∙ cost_back query.aim found.cost));
     sections = is.1;
     listed = subst (λ (v : ℤ). AreParts query tables columns budget (Some v) listed) (sym (ap (cost query.aim) is.0 ∙ cost_back query.aim found.cost)) (subst (λ (l : List PartAnswer). AreParts query tables columns budget (Some found.cost) l) (sym is.2) whole);
@@ -120,9 +117,9 @@ module _ (query : Query) (tables : Tables) (columns : List WorldColumn) where
     module _ (fixed : AreFixed (root columns)) where
       -- the one possible world, which meets
       pub one_best : (point : List ℤ) (v : ℤ) → point ≡ lows (root columns) → judged_at query tables columns point ≡ Ok (Some v) →
-          IsBest query tables (world_at query tables columns point) × (v ≡ cost query.aim (score query.aim tables (world_at query tables columns point)))
+          IsBest query tables (world_at query tables columns point) × (v ≡ cost query.aim (score query tables (world_at query tables columns point)))
       one_best point v lowest is =
-          let value : cost_at query tables columns point ≡ Some v = agree query tables columns point (Some v) is in
+          let value : cost_at query tables columns point ≡ Some v = agree query tables columns asked.fit point (Some v) is in
           best_there query tables columns asked.made asked.fit asked.given point v value
           (covers (cost_at query tables columns) (Some v) (closed leaf.Fixed) (root columns)
           (fixed, subst (NoBetter (Some v)) (sym (ap (cost_at query tables columns) (sym lowest) ∙ value)) (itself v)) refl)
@@ -132,7 +129,7 @@ module _ (query : Query) (tables : Tables) (columns : List WorldColumn) where
       one_fails point lowest is =
           none_there query tables columns asked.made asked.fit asked.given
           (covers (cost_at query tables columns) None (closed leaf.Fixed) (root columns)
-          (fixed, subst (NoBetter None) (sym (ap (cost_at query tables columns) (sym lowest) ∙ agree query tables columns point None is)) tt) refl)
+          (fixed, subst (NoBetter None) (sym (ap (cost_at query tables columns) (sym lowest) ∙ agree query tables columns asked.fit point None is)) tt) refl)
 
     module _ (budget : ℕ) (listed : Listed) (lists : ListsFor query tables columns budget listed) where
       pub lists_done : pending_nodes listed.tree ≡ 0 → is_done lists.tree ≡ true
@@ -158,10 +155,10 @@ module _ (query : Query) (tables : Tables) (columns : List WorldColumn) where
           ∙ root_long columns
 
       pub found_judged : (found : Found) → listed.best ≡ Some found → judged_at query tables columns found.point ≡ Ok (Some found.cost)
-      found_judged found is = leaf_judged (cost_at query tables columns) (judged_at query tables columns) (agree query tables columns) found.point found.cost lists.tree (root columns) lists.sound (found_leaf found is)
+      found_judged found is = leaf_judged (cost_at query tables columns) (judged_at query tables columns) (agree query tables columns asked.fit) found.point found.cost lists.tree (root columns) lists.sound (found_leaf found is)
 
       pub found_best : (found : Found) → listed.best ≡ Some found → pending_nodes listed.tree ≡ 0 →
-          IsBest query tables (world_at query tables columns found.point) × (found.cost ≡ cost query.aim (score query.aim tables (world_at query tables columns found.point)))
+          IsBest query tables (world_at query tables columns found.point) × (found.cost ≡ cost query.aim (score query tables (world_at query tables columns found.point)))
       found_best found is none =
           best_there query tables columns asked.made asked.fit asked.given found.point found.cost (leaf_value (cost_at query tables columns) found.point found.cost lists.tree (root columns) (found_leaf found is))
           (covers (cost_at query tables columns) (Some found.cost) lists.tree (root columns) (found_closes (Some found) is) (lists_done none))
@@ -183,13 +180,12 @@ module _ (query : Query) (tables : Tables) (columns : List WorldColumn) where
   tells_none budget best parts none empty sound = subst (λ (o : Option ℕ). ArePartsFor query tables columns budget best o parts) (sym none) (empty, sound)
 
   -- the fault of the one world
-  pub tells_one : (point : List ℤ) (told : PointFault) → position has_two (root columns) ≡ None → AreFixed (root columns) → point ≡ lows (root columns) → GivesCost {A = Option ℤ} (judged_at query tables columns point) (Err told) →
+  pub tells_one : (point : List ℤ) (told : EvalFault) → position has_two (root columns) ≡ None → AreFixed (root columns) → point ≡ lows (root columns) → Gives {A = Option ℤ} (judged_at query tables columns point) (Err told) →
       (budget : ℕ) → TellsFault query tables columns budget told
-  tells_one point (fault.Eval told) none fixed lowest is budget = record {
+  tells_one point told none fixed lowest is budget = λ other. record {
     tree = closed leaf.Fixed;
     listing = fixed;
     in_order = tt;
     within = λ several. absurd (let some = subst IsSome none several in cc);
-    first = ap fault_of (ap (judged_at query tables columns) (sym lowest) ∙ is);
+    first = ap fault_of (ap (judged_at query tables columns) (sym lowest) ∙ is other);
   }
-  tells_one point fault.Memory none fixed lowest is budget = tt

@@ -1,5 +1,5 @@
 -- an answer of a listing whose text is not too long has that text
-use Rattle.std.proofs.Common.{◌≡◌, ℕ, ◌+◌, ◌^◌, ◌<◌, ◌≤◌, ℤ, pos, unsigned_abs, Bool, true, false, List, [], ◌∷◌, length, refl, sym, subst, arith, Option, Some, None, if◌then◌else◌}
+use Rattle.std.proofs.Common.{◌≡◌, ℕ, ◌^◌, ◌<◌, ◌≤◌, ℤ, pos, unsigned_abs, Bool, true, false, List, [], ◌∷◌, length, refl, sym, subst, arith, Option, Some, None, if◌then◌else◌}
 use Rattle.std.specs.Prelude.{Ok, All, IfSome, int_lt, position}
 use mir.Syntax.{w64}
 use Rattle.std.specs.List.Sorted.{IsStrictlyIncreasing}
@@ -75,10 +75,10 @@ cost_size (aims.Sum true source part) n = omega (arith, ints)
 cost_size (aims.Sum false source part) n = refl
 
 module _ (query : Query) (tables : Tables) (columns : List WorldColumn) where
-  best_small : (best : Option ℤ) (tree : Tree) → NoFault (judged_at query tables columns) tree (root columns) → IsReached query tables columns tree best → IfSome best (λ value. unsigned_abs value < 2 ^ 127)
-  best_small None tree sound reached = tt
-  best_small (Some best) tree sound reached =
-      let small = judged_small query tables columns reached.0 best (leaf_judged (cost_at query tables columns) (judged_at query tables columns) (agree query tables columns) reached.0 best tree (root columns) sound reached.1) in
+  best_small : IsWellFormed query → (best : Option ℤ) (tree : Tree) → NoFault (judged_at query tables columns) tree (root columns) → IsReached query tables columns tree best → IfSome best (λ value. unsigned_abs value < 2 ^ 127)
+  best_small fit None tree sound reached = tt
+  best_small fit (Some best) tree sound reached =
+      let small = judged_small query tables columns reached.0 best (leaf_judged (cost_at query tables columns) (judged_at query tables columns) (agree query tables columns fit) reached.0 best tree (root columns) sound reached.1) in
       omega (arith, small)
 
   -- ---- what an answer carries
@@ -92,7 +92,7 @@ module _ (query : Query) (tables : Tables) (columns : List WorldColumn) where
       number = let one = listed.number in omega (arith, one);
       columns = subst (All (λ column. column < 2 ^ 32)) (sym listed.columns) (open_small (2 ^ 32) 0 (root columns) (let few = root_few in omega (arith, few)));
       rising = subst IsStrictlyIncreasing (sym listed.columns) (open_rising 0 (root columns));
-      best = best_small part.best listed.tree listed.sound listed.reached;
+      best = best_small fit part.best listed.tree listed.sound listed.reached;
       tree = (listed.tree, sym listed.nodes);
       nodes = subst (All IsNode) (sym listed.nodes)
           (tree_nodes (cost_at query tables columns) part.best listed.tree (root columns) root_few (root_small columns (columns_bounded query tables columns made)) listed.closes);

@@ -1,5 +1,5 @@
 -- where a listing comes upon a world that is at fault
-use Rattle.std.specs.Prelude.{◌≡◌, ◌≤◌, ℕ, ℤ, List, Option, Some, IsSome, position, Result}
+use Rattle.std.specs.Prelude.{◌≡◌, ◌≢◌, ◌≤◌, ℕ, ℤ, List, Option, Some, IsSome, position, Result}
 use Rattle.ip_rows.specs.declared.Bounds.{Bounds}
 use Rattle.branch_tree.specs.Tree.{Tree, worked_of}
 use Rattle.branch_tree.specs.Faults.{first_fault}
@@ -8,8 +8,7 @@ use Rattle.tiql_query.specs.declared.query.Query.{Query}
 use Rattle.tiql_query.specs.declared.world_column.WorldColumn.{WorldColumn}
 use Rattle.world_def.specs.Columns.{Tables}
 use Rattle.world_def.specs.declared.fault.EvalFault.{EvalFault}
-use Rattle.world_points.specs.declared.fault.PointFault.{PointFault}
-use Rattle.world_points.specs.declared.fault.PointFault.TheVariants as fault
+use Rattle.world_def.specs.declared.fault.EvalFault.TheVariants as fault
 use Rattle.world_points.specs.Points.{judged_at, root}
 
 module _ (judged : List ℤ → Result (Option ℤ) EvalFault) where
@@ -22,9 +21,8 @@ module _ (judged : List ℤ → Result (Option ℤ) EvalFault) where
     pub first : first_fault judged tree sides ≡ Some told
 
   -- and so it is told, unless memory runs out
-  abbrev pub FaultsAs : ℕ → List Bounds → PointFault → Type 0
-  FaultsAs left sides (fault.Eval told) = FaultsAt left sides told
-  FaultsAs left sides fault.Memory = Unit {0}
+  abbrev pub FaultsAs : ℕ → List Bounds → EvalFault → Type 0
+  FaultsAs left sides told = told ≢ fault.Memory → FaultsAt left sides told
 
 -- a listing of the worlds comes upon this fault first, within the budget of worked nodes. Where no column has two values there is one
 -- world, which is judged whatever the budget

@@ -1,5 +1,5 @@
 -- The answers to a query: their one part, their world, and when each verdict is right.
-use Rattle.std.specs.Prelude.{◌≡◌, ◌≤◌, ℕ, ℤ, List, [], ◌∷◌, Option, Some, None, IsSome, true, false, position, Ok}
+use Rattle.std.specs.Prelude.{◌≡◌, ◌≢◌, ◌≤◌, ℕ, ℤ, List, [], ◌∷◌, Option, Some, None, IsSome, true, false, position, Ok}
 use Rattle.branch_tree.specs.declared.node.Leaf.TheVariants as leaf
 use Rattle.branch_tree.specs.Tree.{Tree, closed, preorder, worked_of}
 use Rattle.branch_tree.specs.Faults.{NoFault}
@@ -14,10 +14,10 @@ use Rattle.tiql_query.specs.declared.query.Query.{Query}
 use Rattle.tiql_query.specs.declared.world_column.WorldColumn.{WorldColumn}
 use Rattle.world_def.specs.Columns.{Tables}
 use Rattle.world_def.specs.Meaning.{IsBest, NoneMeets, score}
+use Rattle.world_def.specs.declared.fault.EvalFault.{EvalFault}
+use Rattle.world_def.specs.declared.fault.EvalFault.TheVariants as fault
 use Rattle.world_def.specs.declared.world.World.{World}
 use Rattle.world_points.specs.Points.{judged, judged_at, root, cost_at, world_at, cost}
-use Rattle.world_points.specs.declared.fault.PointFault.{PointFault}
-use Rattle.world_points.specs.declared.fault.PointFault.TheVariants as fault
 use Rattle.world_listing.specs.Faults.{FaultsIn}
 use Rattle.world_listing.specs.Works.{Lists}
 use Rattle.world_listing.specs.declared.search.Found.{Found}
@@ -68,8 +68,8 @@ module _ (query : Query) (tables : Tables) (choices : List WorldColumn) where
   pub record IsOptimal (budget : ℕ) (objective : ℤ) (worlds : List WorldText) (parts : List PartAnswer) : Type 0 where
     pub world : World
     pub best : IsBest query tables world
-    pub score : objective ≡ score query.aim tables world
-    -- no value of this world is too large
+    pub score : objective ≡ score query tables world
+    -- this world is not at fault
     pub sound : judged query tables world ≡ Ok (Some (cost query.aim objective))
     pub sections : AreWritten query.hypos world.tables worlds
     pub listed : AreParts budget (Some (cost query.aim objective)) parts
@@ -111,9 +111,8 @@ module _ (query : Query) (tables : Tables) (choices : List WorldColumn) where
     pub verdict : IsVerdictFor budget answer.verdict
 
   -- a fault that is told is the first that a listing comes upon, unless memory runs out
-  abbrev pub TellsFault : ℕ → PointFault → Type 0
-  TellsFault budget (fault.Eval told) = FaultsIn query tables choices budget told
-  TellsFault budget fault.Memory = Unit {0}
+  abbrev pub TellsFault : ℕ → EvalFault → Type 0
+  TellsFault budget told = told ≢ fault.Memory → FaultsIn query tables choices budget told
 
   -- the box of the columns is listed with the budget
   abbrev pub ListsFor : ℕ → Listed → Type 0

@@ -20,20 +20,20 @@ use branch_tree::{Branches, lowest_point};
 use ip_rows::Bounds;
 use std::alloc::Global;
 use tiql_query::{Aim, Query, WorldColumn};
-use world_def::{Tables, world_at};
-use world_points::{PointFault, sides_of};
+use world_def::{EvalFault, Tables, world_at};
+use world_points::sides_of;
 
 /// The answer to a query over its tables, with a budget of worked nodes: the worlds are listed (docs/ANSWERS.md).
 ///
-/// The query is checked and has no view, and the columns are those of `world_columns` for the same query and tables. The
-/// fault is that of the first listed world that has one.
+/// The query is checked, and the columns are those of `world_columns` for the same query and tables. The fault is that of the
+/// first listed world that has one: its first value that is too large, or its first relation with too many rows.
 pub fn answer_listed(
     alloc: Global,
     query: &Query,
     tables: &Tables,
     columns: &List<WorldColumn>,
     budget: u32,
-) -> Result<Answer, PointFault>
+) -> Result<Answer, EvalFault>
     requires columns { columns_of query.now tables.now ≡ Ok columns.now }
     requires small { IsSmall query.now tables.now }
     requires count { length query.now.requires_ < 4294967295 }
@@ -73,7 +73,7 @@ fn verdict_of(
     judge: &Judge,
     root: &[Bounds],
     budget: u32,
-) -> Result<Verdict, PointFault>
+) -> Result<Verdict, EvalFault>
     requires asked { IsSubject judge.now.query.now judge.now.tables.now judge.now.columns.now }
     requires root { root.now ≡ points.root judge.now.columns.now }
     requires budget { budget < 2 ^ 31 }
@@ -92,7 +92,7 @@ fn list_worlds(
     judge: &Judge,
     root: &[Bounds],
     budget: u32,
-) -> Result<Verdict, PointFault>
+) -> Result<Verdict, EvalFault>
     requires asked { IsSubject judge.now.query.now judge.now.tables.now judge.now.columns.now }
     requires root { root.now ≡ points.root judge.now.columns.now }
     requires budget { budget < 2 ^ 31 }
@@ -135,7 +135,7 @@ fn told_of(
 }
 
 /// Judges the one possible world, where no column has two values.
-fn judge_world(alloc: Global, judge: &Judge, root: &[Bounds]) -> Result<Verdict, PointFault>
+fn judge_world(alloc: Global, judge: &Judge, root: &[Bounds]) -> Result<Verdict, EvalFault>
     requires asked { IsSubject judge.now.query.now judge.now.tables.now judge.now.columns.now }
     requires root { root.now ≡ points.root judge.now.columns.now }
     requires none { position has_two root.now ≡ None }

@@ -2,7 +2,7 @@
 
 ghost use Rattle.std.specs.Prelude.{◌≡◌, ◌<◌, ◌^◌, length, [], ◌∷◌, ◌++◌, ℤ, Option, Ok, OnOk, IfOk, IfErr};
 ghost use Rattle.branch_tree.specs.Listing.{AreSides, lows};
-ghost use Rattle.world_points.specs.Points.{GivesCost};
+ghost use Rattle.world_def.specs.Views.{Gives};
 ghost use Rattle.world_points.specs.Subject.{IsSubject};
 ghost use Rattle.world_listing.specs.Judge.{value_by, judged_by};
 ghost use Rattle.world_listing.specs.Faults.{FaultsAs};
@@ -14,8 +14,8 @@ use branch_tree::{Branches, Leaf, Node, Reason, lowest_point};
 use ip_rows::Bounds;
 use std::alloc::Global;
 use tiql_query::{Query, WorldColumn};
-use world_def::Tables;
-use world_points::{PointFault, judge_point};
+use world_def::{EvalFault, Tables};
+use world_points::judge_point;
 
 /// What the points are judged by: the query, its tables, and its world columns.
 #[derive(Clone, Copy, Debug)]
@@ -54,7 +54,7 @@ pub fn list_points(
     judge: &Judge,
     root: &[Bounds],
     budget: u32,
-) -> Result<Listed, PointFault>
+) -> Result<Listed, EvalFault>
     requires asked { IsSubject judge.now.query.now judge.now.tables.now judge.now.columns.now }
     requires sides { AreSides root.now }
     requires long { length root.now ≡ length judge.now.columns.now }
@@ -82,7 +82,7 @@ fn explore(
     judge: &Judge,
     sides: &mut [Bounds],
     search: &mut Search,
-) -> Result<(), PointFault>
+) -> Result<(), EvalFault>
     requires asked { IsSubject judge.now.query.now judge.now.tables.now judge.now.columns.now }
     requires sides { AreSides sides.old }
     requires long { length sides.old ≡ length judge.now.columns.now }
@@ -139,13 +139,13 @@ fn close(
     judge: &Judge,
     sides: &[Bounds],
     search: &mut Search,
-) -> Result<(), PointFault>
+) -> Result<(), EvalFault>
     requires asked { IsSubject judge.now.query.now judge.now.tables.now judge.now.columns.now }
     requires long { length sides.now ≡ length judge.now.columns.now }
     ensures nodes { OnOk result (search.new.nodes ≡ search.old.nodes ++ Node.Closed Leaf.Fixed ∷ []) }
     ensures left { search.new.left ≡ search.old.left }
     ensures best { OnOk result (IsJudgedTo (judged_by judge.now (lows sides.now)) search.old.best (lows sides.now) search.new.best) }
-    ensures fault { IfErr result (λ told. GivesCost {A = Option ℤ} (judged_by judge.now (lows sides.now)) (Err told)) }
+    ensures fault { IfErr result (λ told. Gives {A = Option ℤ} (judged_by judge.now (lows sides.now)) (Err told)) }
 {
     add(&mut search.nodes, Node::Closed(Leaf::Fixed))?;
     let point = lowest_point(alloc, sides)?;
@@ -159,10 +159,10 @@ fn close(
 }
 
 /// The cost of a point, if it is that of a world that meets what is required.
-pub fn judged(alloc: Global, judge: &Judge, point: &List<i64>) -> Result<Option<i128>, PointFault>
+pub fn judged(alloc: Global, judge: &Judge, point: &List<i64>) -> Result<Option<i128>, EvalFault>
     requires asked { IsSubject judge.now.query.now judge.now.tables.now judge.now.columns.now }
     requires long { length point.now ≡ length judge.now.columns.now }
-    ensures { GivesCost (judged_by judge.now point.now) result }
+    ensures { Gives (judged_by judge.now point.now) result }
 {
     judge_point(
         alloc,

@@ -1,7 +1,7 @@
 -- what points tell of the worlds of a query: a world that costs no more than any point is best, and where no point has a
 -- cost none meets
 use Rattle.std.proofs.Common.{◌≡◌, ℕ, ℤ, ◌≤ℤ◌, ◌<◌, Bool, true, false, List, [], ◌∷◌, length, get_or, refl, sym, ◌∙◌, ap, subst, arith, Option, Some, None, if◌then◌else◌}
-use Rattle.std.specs.Prelude.{neg_ℤ, MatchOption, IsSomeAnd, is_none, slice_get, unwrap_or, Ok, All, IsTrue}
+use Rattle.std.specs.Prelude.{neg_ℤ, MatchOption, IsSomeAnd, is_none, slice_get, unwrap_or, option_map, Ok, All, IsTrue}
 use Rattle.std.specs.List.{AllZip}
 use Rattle.std.specs.Ordering.{int_eq}
 use Rattle.std.specs.Cmp.Lexicographic.{pointwise}
@@ -24,13 +24,13 @@ use Rattle.world_def.specs.declared.world.World.{World}
 use Rattle.world_def.specs.declared.world.WorldTable.{WorldTable}
 use Rattle.world_def.specs.Columns.{Rows, Tables, rows_of, columns_of}
 use Rattle.world_def.specs.Worlds.{first_impossible, tables_at}
-use Rattle.world_def.specs.Meaning.{IsPossible, Meets, IsBest, NoneMeets, Better, score}
+use Rattle.world_def.specs.Meaning.{IsPossible, Meets, IsBest, NoneMeets, Better, meets, score, score_met}
 use Rattle.world_def.proofs.Choices.{columns_told}
 use Rattle.world_def.proofs.Restored.{world_restored}
 use Rattle.std.proofs.lemmas.Bool.{and_parts}
 use Rattle.world_def.proofs.Runs.{possible_told, possible_passes}
 use Rattle.world_points.specs.Points as points
-use Rattle.world_points.specs.Points.{root, cost, is_met, world_cost, cost_at, is_of_world, has_numbers, numbers}
+use Rattle.world_points.specs.Points.{root, cost, world_cost, cost_at, is_of_world, has_numbers, numbers}
 use Rattle.world_points.proofs.Within.{HasCells, inside_box}
 
 none_is : (found : Option ℕ) → is_none found ≡ true → found ≡ None
@@ -63,8 +63,9 @@ module _ (query : Query) (tables : Tables) (columns : List WorldColumn) (made : 
       let own : is_of_world query tables columns (numbers query tables columns world) ≡ true = ap (λ (w : World). has_numbers query tables columns w (numbers query tables columns world)) same ∙ own_numbers world p in
       rw own (ap (world_cost query tables) same)
 
-meets_cost : (query : Query) (tables : Tables) (world : World) → Meets query tables world → world_cost query tables world ≡ Some (cost query.aim (score query.aim tables world))
-meets_cost query tables world m = let met : is_met query tables world ≡ true = m in rw met refl
+meets_cost : (query : Query) (tables : Tables) (world : World) → Meets query tables world → world_cost query tables world ≡ Some (cost query.aim (score query tables world))
+unfolding score_met
+meets_cost query tables world m = let met : meets query tables world ≡ true = m in rw met refl
 
 there_of : (columns : List Column) (n : ℕ) (found : Option Column) → slice_get columns n ≡ found → IsTrue (is_number (kind_at (columns ∷ []) (record { source = 0; column = n }))) → n < length columns
 unfolding kind_at
@@ -110,16 +111,16 @@ module _ (query : Query) (tables : Tables) (columns : List WorldColumn) (made : 
 
   -- a possible world that meets, and costs no more than any point, is best
   pub best_of : (world : World) → IsPossible query tables world → Meets query tables world
-      → ((other : List ℤ) → InBox (root columns) other → NoBetter (Some (cost query.aim (score query.aim tables world))) (cost_at query tables columns other)) → IsBest query tables world
+      → ((other : List ℤ) → InBox (root columns) other → NoBetter (Some (cost query.aim (score query tables world))) (cost_at query tables columns other)) → IsBest query tables world
   best_of world p m least = record {
     possible = p;
     meets = m;
     none_better = λ other q n better.
         let there = least (numbers query tables columns other) (own_inside other q) in
         let cost_is = own_cost query tables columns made other q ∙ meets_cost query tables other n in
-        let le : cost query.aim (score query.aim tables world) ≤ℤ cost query.aim (score query.aim tables other) =
-        subst (λ (v : Option ℤ). NoBetter (Some (cost query.aim (score query.aim tables world))) v) cost_is there in
-        not_better query.aim (score query.aim tables world) (score query.aim tables other) le better;
+        let le : cost query.aim (score query tables world) ≤ℤ cost query.aim (score query tables other) =
+        subst (λ (v : Option ℤ). NoBetter (Some (cost query.aim (score query tables world))) v) cost_is there in
+        not_better query.aim (score query tables world) (score query tables other) le better;
   }
 
   -- where no point has a cost, no possible world meets
@@ -128,25 +129,26 @@ module _ (query : Query) (tables : Tables) (columns : List WorldColumn) (made : 
       let cost_is = own_cost query tables columns made world p ∙ meets_cost query tables world m in
       subst (λ (v : Option ℤ). NoBetter None v) cost_is (none (numbers query tables columns world) (own_inside world p))
 
-  world_meets : (world : World) (v : ℤ) → world_cost query tables world ≡ Some v → Meets query tables world × (v ≡ cost query.aim (score query.aim tables world))
-  world_meets world v = by_test (is_met query tables world) refl
+  world_meets : (world : World) (v : ℤ) → world_cost query tables world ≡ Some v → Meets query tables world × (v ≡ cost query.aim (score query tables world))
+  unfolding score_met
+  world_meets world v = by_test (meets query tables world) refl
     where
-      by_test : (b : Bool) → is_met query tables world ≡ b → (if b then Some (cost query.aim (score query.aim tables world)) else None) ≡ Some v → Meets query tables world × (v ≡ cost query.aim (score query.aim tables world))
+      by_test : (b : Bool) → meets query tables world ≡ b → option_map (cost query.aim) (if b then Some (score query tables world) else None) ≡ Some v → Meets query tables world × (v ≡ cost query.aim (score query tables world))
       by_test true t e = (t, cc)
       by_test false t e = absurd (let k : ◌≡◌ {A = Option ℤ} None (Some v) = e in cc)
 
-  point_meets : (point : List ℤ) (v : ℤ) → cost_at query tables columns point ≡ Some v → IsPossible query tables (points.world_at query tables columns point) × Meets query tables (points.world_at query tables columns point) × (v ≡ cost query.aim (score query.aim tables (points.world_at query tables columns point)))
+  point_meets : (point : List ℤ) (v : ℤ) → cost_at query tables columns point ≡ Some v → IsPossible query tables (points.world_at query tables columns point) × Meets query tables (points.world_at query tables columns point) × (v ≡ cost query.aim (score query tables (points.world_at query tables columns point)))
   unfolding cost_at
   point_meets point v = by_test (is_of_world query tables columns point) refl
     where
       by_test : (b : Bool) → is_of_world query tables columns point ≡ b → (if b then world_cost query tables (points.world_at query tables columns point) else None) ≡ Some v
-          → IsPossible query tables (points.world_at query tables columns point) × Meets query tables (points.world_at query tables columns point) × (v ≡ cost query.aim (score query.aim tables (points.world_at query tables columns point)))
+          → IsPossible query tables (points.world_at query tables columns point) × Meets query tables (points.world_at query tables columns point) × (v ≡ cost query.aim (score query tables (points.world_at query tables columns point)))
       by_test true t e = let met = world_meets (points.world_at query tables columns point) v e in (possible_at query tables columns made point t, met.0, met.1)
       by_test false t e = absurd (let k : ◌≡◌ {A = Option ℤ} None (Some v) = e in cc)
 
   -- the world of a point that costs no more than any point is best
   pub best_there : (point : List ℤ) (v : ℤ) → cost_at query tables columns point ≡ Some v → ((other : List ℤ) → InBox (root columns) other → NoBetter (Some v) (cost_at query tables columns other))
-      → IsBest query tables (points.world_at query tables columns point) × (v ≡ cost query.aim (score query.aim tables (points.world_at query tables columns point)))
+      → IsBest query tables (points.world_at query tables columns point) × (v ≡ cost query.aim (score query tables (points.world_at query tables columns point)))
   best_there point v is least =
       let is_there = point_meets point v is in
       (best_of (points.world_at query tables columns point) is_there.0 is_there.1 (subst (λ (n : ℤ). (other : List ℤ) → InBox (root columns) other → NoBetter (Some n) (cost_at query tables columns other)) is_there.2 least), is_there.2)

@@ -18,7 +18,7 @@ use Rattle.tiql_query.specs.WellFormed.{are_once}
 use Rattle.tiql_query.specs.declared.world_column.WorldColumn.{WorldColumn}
 use Rattle.world_def.specs.declared.world.World.{World}
 use Rattle.world_def.specs.declared.world.WorldTable.{WorldTable}
-use Rattle.world_def.specs.Values.{number}
+use Rattle.row_values.specs.Values.{number}
 use Rattle.world_def.specs.Columns.{Rows, Tables, rows_of, presence_column}
 use Rattle.world_def.specs.Worlds.{leading, of_hypo, standing, count_of, column_at, is_between, fits_cell, row_fits, row_possible, number_in, rows_numbers, table_numbers, world_numbers}
 use Rattle.world_def.specs.Meaning.{may_change, cell_choice, presence_choice, choices, rows_choices, all_choices, rows_can, table_can, tables_can, IsPossible}

@@ -1,6 +1,5 @@
 -- points: one number for each world column, which possible world they are, and its cost
-use Rattle.std.specs.Prelude.{◌≡◌, ℤ, pos, neg_ℤ, int_lt, Bool, ◌&&◌, if◌then◌else◌, List, map, Option, Some, None, is_none, Result, Ok, Err}
-use Rattle.std.specs.List.{list_all}
+use Rattle.std.specs.Prelude.{ℤ, pos, neg_ℤ, int_lt, Bool, ◌&&◌, if◌then◌else◌, List, map, Option, None, option_map, is_none, Result, Ok}
 use Rattle.std.specs.Ordering.{int_eq}
 use Rattle.std.specs.Cmp.Lexicographic.{pointwise}
 use Rattle.base_kit.specs.Asking.{and_then}
@@ -14,9 +13,7 @@ use Rattle.world_def.specs.declared.world.World.{World}
 use Rattle.world_def.specs.Columns.{Tables}
 use Rattle.world_def.specs.Worlds.{first_impossible, world_numbers, tables_at}
 use Rattle.world_def.specs.Meaning as meaning
-use Rattle.world_def.specs.Judging.{broken_from, score_asked, rows_in, source_of}
-use Rattle.world_points.specs.declared.fault.PointFault.{PointFault}
-use Rattle.world_points.specs.declared.fault.PointFault.TheVariants as fault
+use Rattle.world_def.specs.Judging as judging
 
 -- the lesser of two numbers
 abbrev pub least : ℤ → ℤ → ℤ
@@ -39,18 +36,13 @@ unfoldable pub cost : Aim → ℤ → ℤ
 cost aims.Find n = n
 cost (aims.Sum maximize source part) n = if maximize then neg_ℤ n else n
 
--- the world meets what is required
-abbrev pub is_met : Query → Tables → World → Bool
-is_met query tables world = list_all (λ need. meaning.is_met need (rows_in tables world (source_of need))) query.requires_
-
 -- the cost of a world, where it meets what is required
 abbrev pub world_cost : Query → Tables → World → Option ℤ
-world_cost query tables world = if is_met query tables world then Some (cost query.aim (meaning.score query.aim tables world)) else None
+world_cost query tables world = option_map (cost query.aim) (meaning.score_met query tables world)
 
--- the same as it is asked, up to the first value that is too large
+-- the same as it is asked, up to the first fault
 unfoldable pub judged : Query → Tables → World → Result (Option ℤ) EvalFault
-judged query tables world = and_then (broken_from tables world 1 query.requires_) (λ broken.
-    if is_none broken then and_then (score_asked tables world query.aim) (λ n. Ok (Some (cost query.aim n))) else Ok None)
+judged query tables world = and_then (judging.judged query tables world) (λ score. Ok (option_map (cost query.aim) score))
 
 -- the numbers of a world's columns
 abbrev pub numbers : Query → Tables → List WorldColumn → World → List ℤ
@@ -75,9 +67,3 @@ cost_at query tables columns point = if is_of_world query tables columns point t
 -- the same as it is asked
 unfoldable pub judged_at : Query → Tables → List WorldColumn → List ℤ → Result (Option ℤ) EvalFault
 judged_at query tables columns point = if is_of_world query tables columns point then judged query tables (world_at query tables columns point) else Ok None
-
--- this is what the asking comes to, unless memory is wanting
-abbrev pub GivesCost : {A : Type 0} → Result A EvalFault → Result A PointFault → Type 0
-GivesCost outcome (Ok a) = outcome ≡ Ok a
-GivesCost outcome (Err (fault.Eval told)) = outcome ≡ Err told
-GivesCost outcome (Err fault.Memory) = Unit {0}

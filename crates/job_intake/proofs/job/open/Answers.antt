@@ -22,8 +22,8 @@ returns-clause-comes g c =
     let command = forms.command c.args.form.command in
     let text = c.in_ok-text.text in
     let query = c.in_ok-query.query in
-    then_goes (FileComes w 16777216 name) (λ bytes. Then (AskComes name bytes) (Loaded next folder command)) text c.load.result c.in_ok-text.ensures.comes
-    (then_goes (AskComes name text) (Loaded next folder command) query c.load.result (subst (λ (l : List ℕ). Follows (AskComes name l) (Ok query)) c.as_slice.ensures c.in_ok-query.ensures.comes)
+    then_goes (FileComes w 16777216 name) (λ bytes. Then (AskComes bytes) (Loaded next folder command)) text c.load.result c.in_ok-text.ensures.comes
+    (then_goes (AskComes text) (Loaded next folder command) query c.load.result (subst (λ (l : List ℕ). Follows (AskComes l) (Ok query)) c.as_slice.ensures c.in_ok-query.ensures.comes)
     (subst (λ (u : Visit). Follows (Loaded u folder command query) c.load.result)
     (from_before 1 (g.S.Shelf.held before) (g.S.Shelf.held here) (g.S.Shelf.fails before) (g.S.Shelf.fails here) (g.S.Shelf.misses before) (g.S.Shelf.misses here) (g.S.Shelf.misses now) (g.S.Shelf.faults before) (g.S.Shelf.faults here) (g.S.Shelf.faults now) c.in_ok-text.ensures.held c.in_ok-text.ensures.moved c.in_ok-text.ensures.counts.misses c.in_ok-text.ensures.counts.faults)
     c.load.ensures.comes))

@@ -16,7 +16,7 @@ pub returns-clause-refused : goal.returns-clause-refused
 returns-clause-refused g c = calling.refused_told (saw c.args.words.now g.S.Shelf.held g.S.Shelf.fails g.S.Shelf.misses g.S.Shelf.faults c.args.shelf.now c.respond.new.shelf g.K.Sink.written g.K.Sink.faults c.args.out.now c.respond.new.out) c.respond.result c.respond.ensures.leaves
 
 pub returns-clause-passes : goal.returns-clause-passes
-returns-clause-passes g c = calling.wide_told (saw c.args.words.now g.S.Shelf.held g.S.Shelf.fails g.S.Shelf.misses g.S.Shelf.faults c.args.shelf.now c.respond.new.shelf g.K.Sink.written g.K.Sink.faults c.args.out.now c.respond.new.out) c.respond.result c.respond.ensures.leaves
+returns-clause-passes g c = calling.passes_told (saw c.args.words.now g.S.Shelf.held g.S.Shelf.fails g.S.Shelf.misses g.S.Shelf.faults c.args.shelf.now c.respond.new.shelf g.K.Sink.written g.K.Sink.faults c.args.out.now c.respond.new.out) c.respond.result c.respond.ensures.leaves
 
 pub returns-clause-answered : goal.returns-clause-answered
 returns-clause-answered g c = calling.answered_told (saw c.args.words.now g.S.Shelf.held g.S.Shelf.fails g.S.Shelf.misses g.S.Shelf.faults c.args.shelf.now c.respond.new.shelf g.K.Sink.written g.K.Sink.faults c.args.out.now c.respond.new.out) c.respond.result c.respond.ensures.leaves
@@ -32,6 +32,9 @@ returns-clause-checked g c = calling.checked_told (saw c.args.words.now g.S.Shel
 
 pub returns-clause-accepts : goal.returns-clause-accepts
 returns-clause-accepts g c = calling.accepted_told (saw c.args.words.now g.S.Shelf.held g.S.Shelf.fails g.S.Shelf.misses g.S.Shelf.faults c.args.shelf.now c.respond.new.shelf g.K.Sink.written g.K.Sink.faults c.args.out.now c.respond.new.out) c.respond.result c.respond.ensures.leaves
+
+pub returns-clause-evaluated : goal.returns-clause-evaluated
+returns-clause-evaluated g c = calling.evaluated_told (saw c.args.words.now g.S.Shelf.held g.S.Shelf.fails g.S.Shelf.misses g.S.Shelf.faults c.args.shelf.now c.respond.new.shelf g.K.Sink.written g.K.Sink.faults c.args.out.now c.respond.new.out) c.respond.result c.respond.ensures.leaves
 
 pub returns-clause-reads : goal.returns-clause-reads
 returns-clause-reads g c = c.respond.ensures.reads

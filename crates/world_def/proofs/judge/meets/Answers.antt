@@ -1,7 +1,9 @@
-use Rattle.std.proofs.Common.{◌∙◌, ap}
-use Rattle.world_def.specs.Judging.{broken_from}
+use Rattle.world_def.proofs.Begun.{none_right}
 use Rattle.world_def.proofs.Told.{told_exactly}
 use Rattle.world_def.proofs.judge.meets.Goals as goal
 
 pub returns-clause-met : goal.returns-clause-met
-returns-clause-met c = told_exactly c.args.tables.now c.args.world.now c.args.query.now.requires_ _ (c.first_of.ensures ∙ ap (broken_from c.args.tables.now c.args.world.now 1) c.as_slice.ensures)
+returns-clause-met c = told_exactly c.args.query.now c.args.tables.now c.args.world.now c.requires.fit _ c.first_of.ensures.told
+
+pub first_of-requires-clause-made : goal.first_of-requires-clause-made
+first_of-requires-clause-made c = none_right c.args.query.now c.args.tables.now c.args.world.now _ c.in_ok-views.ensures

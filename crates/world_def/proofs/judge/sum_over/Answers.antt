@@ -1,8 +1,8 @@
 use Rattle.std.proofs.Common.{sym, ◌∙◌, arith, rules, [], ◌∷◌}
 use Rattle.std.proofs.lemmas.Int.{ints}
 use Rattle.base_kit.proofs.Asking.{left_err}
-use Rattle.world_def.specs.Asked.{asked}
-use Rattle.world_def.proofs.Evaluate.{summed_step, summed_end}
+use Rattle.row_values.specs.Asked.{asked}
+use Rattle.row_values.proofs.Evaluate.{summed_step, summed_end}
 use Rattle.world_def.proofs.Judging.{sum-init}
 use Rattle.world_def.proofs.judge.sum_over.Goals as goal
 

@@ -1,8 +1,8 @@
 use Rattle.std.proofs.Common.{◌≡◌, ◌≤◌, ◌*◌, ◌^◌, unsigned_abs, [], ◌∷◌}
 use Rattle.base_kit.specs.Asking.{left}
-use Rattle.world_def.specs.Asked.{asked}
+use Rattle.row_values.specs.Asked.{asked}
 use Rattle.world_def.specs.Judging.{sum_over}
-use Rattle.world_def.proofs.Evaluate.{summed}
+use Rattle.row_values.proofs.Evaluate.{summed}
 use Rattle.world_def.proofs.judge.sum_over.Given as goal
 
 abbrev pub invariant-loop-row : goal.invariant-loop-row

@@ -22,7 +22,7 @@ returns-then-search-eq0-clause-works t c = works_open _ _ _ _ _ c.if-search-eq0.
 
 pub returns-in-None-clause-works : goal.returns-in-None-clause-works
 returns-in-None-clause-works t c =
-    works_point (value_by c.args.judge.now) (judged_by c.args.judge.now) (agree c.args.judge.now.query.now c.args.judge.now.tables.now c.args.judge.now.columns.now) c.args.sides.now c.args.search.now c.close.new.search
+    works_point (value_by c.args.judge.now) (judged_by c.args.judge.now) (agree c.args.judge.now.query.now c.args.judge.now.tables.now c.args.judge.now.columns.now c.requires.asked.fit) c.args.sides.now c.args.search.now c.close.new.search
     (one_point c.args.sides.now c.requires.sides (sym c.in-None.ensures)) (omega arith) c.in_ok-close-in-None.ensures.nodes c.in_ok-close-in-None.ensures.left c.in_ok-close-in-None.ensures.best
 
 pub returns-in_err-close-in-None-clause-fault : goal.returns-in_err-close-in-None-clause-fault

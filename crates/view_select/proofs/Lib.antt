@@ -1,0 +1,16 @@
+pub mod Conditions
+pub mod Few
+pub mod Gathered
+pub mod GroupMeaning
+pub mod Grouped
+pub mod Levels
+pub mod Loops
+pub mod Meaning
+pub mod Orders
+pub mod Rowing
+pub mod Selecting
+pub mod Sources
+pub mod Steps
+pub mod Ties
+pub mod WalkMeaning
+pub mod WhereMeaning

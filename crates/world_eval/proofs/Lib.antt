@@ -1,0 +1,4 @@
+pub mod Meant
+pub mod Stands
+pub mod Turns
+pub mod Wide
