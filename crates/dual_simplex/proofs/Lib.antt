@@ -1,0 +1,17 @@
+pub mod Orders
+pub mod Ranks
+pub mod Lists
+pub mod Steps
+pub mod Points
+pub mod Starts
+pub mod Chosen
+pub mod Ends
+pub mod Walks
+pub mod LeastPoints
+pub mod Mended
+pub mod Multipliers
+pub mod Bounds
+pub mod Reach
+pub mod Evidence
+pub mod Outcomes
+pub mod Rises
