@@ -7,7 +7,7 @@ use Rattle.std.proofs.lemmas.List.Elements.{All-nil, All-cons}
 use Rattle.std.specs.Prelude.{Option, Some, None, is_some, Result, Ok, Err, All, flat_map}
 use Rattle.answer_text.specs.Tokens.{cut, strip}
 use Rattle.answer_text.specs.Blocks.{◌>>=◌, told, read_line, begins, items_at}
-use Rattle.answer_text.proofs.Words.{lacks, cut_takes, cut_again, strip_again}
+use Rattle.answer_text.proofs.Words.{lacks, cut_takes, cut_again}
 
 -- where a reader has stopped: the front begins a text of some value, and whatever line stands behind it, the reader stops
 -- there again, so that no text goes on with that line

@@ -1,6 +1,6 @@
 -- What an answer carries can be spelled: the nodes of a tree over a box whose sides are small, and the sections of a text that is not
 -- too long.
-use Rattle.std.proofs.Common.{◌≡◌, ℕ, zero, suc, ◌+◌, ◌^◌, ◌<◌, ◌≤◌, ℤ, pos, ◌≤ℤ◌, ◌<ℤ◌, ◌+ℤ◌, unsigned_abs, List, [], ◌∷◌, ◌++◌, length, arith, Option}
+use Rattle.std.proofs.Common.{ℕ, zero, suc, ◌^◌, ◌<◌, ◌≤◌, ℤ, pos, ◌≤ℤ◌, ◌<ℤ◌, ◌+ℤ◌, unsigned_abs, List, [], ◌∷◌, ◌++◌, length, arith, Option}
 use Rattle.std.specs.Prelude.{All, codes, decimal, flat_map, set}
 use mir.Syntax.{w64}
 use Rattle.std.proofs.lemmas.Int.{ints, fits_signed_from_abs}

@@ -1,6 +1,5 @@
 -- sections of worlds: one more, and the first that is wrong
-use Rattle.std.proofs.Common.{◌≡◌, ◌∙◌, ◌+◌, ◌<◌, ◌≤◌, ◌++◌, ℕ, zero, suc, inl, inr, List, [], ◌∷◌, Option, Some, None, ap, sym, refl, subst, arith, length, take}
-use Rattle.std.proofs.lemmas.Bool.{cases_lt}
+use Rattle.std.proofs.Common.{◌≡◌, ◌∙◌, ◌+◌, ◌<◌, ◌≤◌, ◌++◌, ℕ, zero, suc, List, [], ◌∷◌, Option, Some, None, ap, sym, refl, subst, arith, length, take}
 use Rattle.std.proofs.lemmas.List.{take_all, take_more}
 use Rattle.std.proofs.lemmas.Option.{get_or_from_slice_get, same_Some, slice_get_past, slice_get_within}
 use Rattle.std.specs.Prelude.{slice_get}
@@ -9,7 +8,7 @@ use Rattle.tiql_query.specs.declared.relation.QHypo.{QHypo}
 use Rattle.tiql_query.specs.declared.relation.QTable.{QTable}
 use Rattle.tables_csv.proofs.Outcomes.{table_one}
 use Rattle.tiql_query.proofs.Rows.{table_has_rows}
-use Rattle.tiql_query.specs.Rows.{AreTables}
+use Rattle.tiql_query.specs.Rows.{AreRowsOf, AreTables}
 use Rattle.tables_csv.specs.WholeTables.{IsTableOf}
 use Rattle.world_def.specs.Columns.{Rows, Tables, rows_of}
 use Rattle.world_def.specs.declared.world.World.{World}
@@ -38,11 +37,11 @@ module _ (query : Query) (tables : Tables) (are : AreTables query tables) (hypo 
   no_rows none found is = let has = table_has_rows query tables hypo.table is.table are is.there in let there = has.1 in cc
 
   module _ (table : QTable) (base : Rows) (there : slice_get query.tables hypo.table ≡ Some table) (rows : slice_get tables hypo.table ≡ Some base) where
-    pub base_few : length base ≤ 200000
-    base_few =
+    pub base_rows : AreRowsOf table base
+    base_rows =
         let has = table_has_rows query tables hypo.table table are there in
         let same : has.0 ≡ base = same_Some has.0 base (sym has.1 ∙ rows) in
-        subst (λ (r : Rows). length r ≤ 200000) same has.2.few
+        subst (AreRowsOf table) same has.2
 
     base_is : rows_of tables hypo.table ≡ base
     base_is = base_is_there tables hypo.table base rows

@@ -4,7 +4,6 @@ use base_kit::{List, Row, Txt, Value};
 use join_index::Index;
 use std::alloc::Global;
 use std::test::Fail;
-use tables_csv::KeyIndex;
 
 /// A row of a number and a text.
 fn row(alloc: Global, number: i64, text: &str) -> Result<Row, Fail> {
@@ -12,26 +11,6 @@ fn row(alloc: Global, number: i64, text: &str) -> Result<Row, Fail> {
     row.push(Value::Int(number))?;
     row.push(Value::Text(Txt::new(alloc, text)?))?;
     Ok(row)
-}
-
-#[test]
-fn a_key_of_two_columns(rt: HostRuntime) -> Result<(), Fail> {
-    let alloc = rt.alloc();
-    let rows = [row(alloc, 7, "nut")?, row(alloc, 1, "bolt")?];
-    let key = [0, 1];
-    let index = KeyIndex::build(alloc, &key, &rows)?;
-    assert_eq!(rt; index.find(&key, &rows, &row(alloc, 1, "bolt")?), Some(1));
-    assert_eq!(rt; index.find(&key, &rows, &row(alloc, 7, "bolt")?), None);
-    Ok(())
-}
-
-#[test]
-fn no_key(rt: HostRuntime) -> Result<(), Fail> {
-    let alloc = rt.alloc();
-    let rows = [row(alloc, 7, "nut")?];
-    let index = KeyIndex::build(alloc, &[], &rows)?;
-    assert_eq!(rt; index.find(&[], &rows, &rows[0]), None);
-    Ok(())
 }
 
 #[test]

@@ -1,6 +1,5 @@
 pub mod Chains
 pub mod Hashes
-pub mod KeyIndexes
 pub mod Numbers
 pub mod Passes
 pub mod Records

@@ -38,43 +38,6 @@ impl Keys {
         })
     }
 
-    /// The chains of these rows.
-    pub(crate) fn of_rows(alloc: Global, key: &[u32], rows: &[Row]) -> Result<Keys, Memory>
-        requires { length rows.now < 2 ^ 31 }
-        ensures { IfOk result (λ keys. AreKeysOf key.now rows.now keys) }
-    {
-        let mut keys = Keys::new(alloc, key, rows.len())?;
-        if key.is_empty() {
-            return Ok(keys);
-        }
-        for row in rows {
-            append(
-                hash(key, row),
-                &mut keys.hashes,
-                &mut keys.links,
-                keys.heads.as_mut_slice(),
-            )?;
-        }
-        Ok(keys)
-    }
-
-    /// The number of a row, from 1, that has the key of this row, or 0 where none has it.
-    pub(crate) fn seek(&self, key: &[u32], rows: &[Row], row: &Row) -> u32
-        requires some { 0 < length key.now }
-        requires keys { AreKeysOf key.now rows.now self.now }
-        ensures { Sought key.now rows.now (key_of key.now row.now) result }
-    {
-        seek(
-            key,
-            rows,
-            row,
-            hash(key, row),
-            self.hashes.as_slice(),
-            self.links.as_slice(),
-            self.heads.as_slice(),
-        )
-    }
-
     /// Adds a row behind those that are there, unless it has the key of one of them: then the number of that row, from 1.
     pub(crate) fn enter(
         &mut self,

@@ -3,7 +3,6 @@
 
 mod fault;
 mod hash;
-mod key_index;
 mod keys;
 mod number;
 mod record;
@@ -12,7 +11,6 @@ mod table;
 mod write;
 
 pub use fault::TableFault;
-pub use key_index::KeyIndex;
 pub use number::MOST_NUMBER;
 pub use table::{MOST_ROWS, read_table};
 pub use write::table_text;
