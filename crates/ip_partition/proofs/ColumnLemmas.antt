@@ -1,11 +1,11 @@
 -- Spreading a part over the rows of one column, and over one column after another.
-use Rattle.std.proofs.Common.{◌≡◌, ◌≢◌, ◌⊎◌, inl, inr, ◌+◌, ◌<◌, ◌≤◌, ℕ, Bool, true, false, List, [], ◌∷◌, length, get_or, set, refl, sym, ap, ◌∙◌, subst, arith}
+use Rattle.std.proofs.Common.{◌≡◌, ◌⊎◌, inl, inr, ◌+◌, ◌<◌, ◌≤◌, ℕ, Bool, true, false, List, [], ◌∷◌, length, get_or, set, refl, sym, ap, ◌∙◌, subst, arith}
 use Rattle.std.specs.List.{Contains}
-use Rattle.std.proofs.lemmas.Bool.{cases_eq, cases_lt}
+use Rattle.std.proofs.lemmas.Bool.{cases_eq}
 use Rattle.std.proofs.lemmas.List.{get_or-set_same, get_or-set_other}
 use Rattle.cross_links.specs.Layout.{Layout, live_rows}
 use Rattle.ip_partition.specs.Linked.{IsLive}
-use Rattle.ip_partition.specs.Spreading.{part_of, is_seen, HasRoom, IsSpread, Extends, Keeps, SpreadsRow, SpreadsOn, SpreadsColumn}
+use Rattle.ip_partition.specs.Spreading.{part_of, is_seen, HasRoom, IsSpread, Keeps, SpreadsRow, SpreadsOn, SpreadsColumn}
 use Rattle.ip_partition.proofs.Among.{none_in, at_head, behind, head_or_behind, in_column, from_column}
 use Rattle.ip_partition.proofs.RowLemmas.{row_seen, labelled_within}
 

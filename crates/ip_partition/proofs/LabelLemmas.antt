@@ -1,12 +1,12 @@
 -- Labelling the columns, one part after another.
-use Rattle.std.proofs.Common.{◌≡◌, ◌≢◌, ◌⊎◌, inl, inr, ◌+◌, ◌-◌, ◌<◌, ◌≤◌, ℕ, zero, suc, Bool, true, false, cond, eqb, List, [], ◌∷◌, ◌++◌, length, get_or, set, take, drop, replicate, refl, sym, ap, ◌∙◌, subst, arith}
-use Rattle.std.specs.List.{All, count_by}
+use Rattle.std.proofs.Common.{◌≡◌, ◌≢◌, inl, inr, ◌+◌, ◌-◌, ◌<◌, ◌≤◌, ℕ, zero, suc, Bool, false, cond, eqb, List, [], ◌∷◌, ◌++◌, length, get_or, set, take, drop, replicate, refl, sym, ap, ◌∙◌, subst, arith}
+use Rattle.std.specs.List.{All}
 use Rattle.std.proofs.lemmas.Bool.{cases_eq, cases_lt, false≢true}
 use Rattle.std.proofs.lemmas.List.{get_or-set_same, get_or-set_other, length_push, length-set, length-replicate, get_or-replicate, get_or_past, take_at}
 use Rattle.std.proofs.lemmas.List.Sums.{sum_by-cons}
 use Rattle.cross_links.specs.Layout.{Layout}
-use Rattle.ip_partition.specs.Linked.{IsLive, SharesRow, IsLinked}
-use Rattle.ip_partition.specs.Spreading.{part_of, is_seen, unlabelled, IsListed, IsSpread, Keeps, SpreadsOn, IsLabelled, AreLabels}
+use Rattle.ip_partition.specs.Linked.{IsLive, IsLinked}
+use Rattle.ip_partition.specs.Spreading.{part_of, is_seen, unlabelled, IsSpread, Keeps, SpreadsOn, IsLabelled, AreLabels}
 use Rattle.ip_partition.proofs.Chains.{linked_same}
 use Rattle.ip_partition.proofs.RowLemmas.{pushed_before, pushed_last, extends_push, listed_on, unlabelled_set}
 use Rattle.ip_partition.proofs.ColumnLemmas.{Keeps-trans}

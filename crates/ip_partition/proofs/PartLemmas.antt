@@ -1,14 +1,14 @@
 -- Labelled columns, gathered by their labels with their rows, are the parts.
-use Rattle.std.proofs.Common.{◌≡◌, ◌≢◌, ◌⊎◌, ◌↔◌, inl, inr, ◌+◌, ◌-◌, ◌<◌, ◌≤◌, ℕ, zero, suc, Bool, true, false, eqb, List, [], ◌∷◌, ◌++◌, length, get_or, replicate, refl, sym, ap, ◌∙◌, subst, arith}
+use Rattle.std.proofs.Common.{◌≡◌, inl, inr, ◌+◌, ◌-◌, ◌<◌, ◌≤◌, ℕ, eqb, List, [], ◌∷◌, ◌++◌, length, get_or, replicate, refl, sym, ap, ◌∙◌, subst, arith}
 use Rattle.std.specs.List.{All, Contains, filter, range_with_len}
 use Rattle.std.specs.List.Sorted.{IsStrictlyIncreasing}
-use Rattle.std.proofs.lemmas.Bool.{cases_eq, cases_lt, eq-eqb, eqb-true}
+use Rattle.std.proofs.lemmas.Bool.{cases_lt, eq-eqb, eqb-true}
 use Rattle.std.proofs.lemmas.List.{get_or_default, get_or-replicate, length-replicate}
 use Rattle.std.proofs.lemmas.List.FromFn.{get_or-range_with_len, length-range_with_len}
 use Rattle.std.proofs.lemmas.List.Kept.{IsStrictlyIncreasing-filter, AllPairs-from_increasing}
 use Rattle.cross_links.specs.Layout.{Layout, live_columns}
 use Rattle.ip_partition.specs.declared.part.PartCols.{PartCols}
-use Rattle.ip_partition.specs.Linked.{IsLive, SharesRow, IsLinked}
+use Rattle.ip_partition.specs.Linked.{IsLive}
 use Rattle.ip_partition.specs.Parts.{least_of, part_at, IsPart, AreParts}
 use Rattle.ip_partition.specs.Spreading.{part_of, HasRoom, AreLabels, first_part, row_part}
 use Rattle.ip_partition.specs.Filling.{no_part, ColumnsAdded, RowsAdded}

@@ -1,12 +1,12 @@
 -- Spreading a part over the columns of one row.
-use Rattle.std.proofs.Common.{◌≡◌, ◌≢◌, ◌⊎◌, inl, inr, ◌+◌, ◌<◌, ◌≤◌, ℕ, zero, suc, Bool, true, false, List, [], ◌∷◌, ◌++◌, length, get_or, set, eqb, cond, refl, sym, ap, ◌∙◌, subst, arith}
-use Rattle.std.specs.List.{Contains, count_by}
+use Rattle.std.proofs.Common.{◌≡◌, ◌≢◌, ◌⊎◌, inl, inr, ◌+◌, ◌<◌, ◌≤◌, ℕ, Bool, true, false, List, [], ◌∷◌, ◌++◌, length, get_or, set, eqb, cond, refl, sym, ap, ◌∙◌, subst, arith}
+use Rattle.std.specs.List.{Contains}
 use Rattle.std.proofs.lemmas.Bool.{cases_eq, cases_lt, false≢true, ne_eqb}
 use Rattle.std.proofs.lemmas.List.{get_or-set_same, get_or-set_other, get_or_append_left, get_or_push, length_push, length-set, get_or_past}
 use Rattle.std.proofs.lemmas.List.Sums.{sum_by-set}
 use Rattle.cross_links.specs.Layout.{Layout, live_columns}
-use Rattle.ip_partition.specs.Linked.{IsLive, SharesRow, IsLinked}
-use Rattle.ip_partition.specs.Spreading.{part_of, is_seen, unlabelled, IsListed, IsSpread, Extends, Keeps, SpreadsRow}
+use Rattle.ip_partition.specs.Linked.{IsLive, IsLinked}
+use Rattle.ip_partition.specs.Spreading.{part_of, is_seen, unlabelled, IsListed, IsSpread, Extends, SpreadsRow}
 use Rattle.ip_partition.proofs.Among.{none_in, at_head, behind, head_or_behind, in_row, from_row}
 use Rattle.ip_partition.proofs.Chains.{linked_row, linked_trans, linked_sym}
 

@@ -1,5 +1,5 @@
 -- The parts of a grid: the classes of linked columns.
-use Rattle.std.specs.Prelude.{◌≡◌, ◌↔◌, ℕ, ◌<◌, List, [], length, map, All, Contains, slice_index, slice_index_or}
+use Rattle.std.specs.Prelude.{◌↔◌, ℕ, ◌<◌, List, [], length, Contains, slice_index, slice_index_or}
 use Rattle.std.specs.List.Sorted.{IsStrictlyIncreasing}
 use Rattle.cross_links.specs.Layout.{Layout}
 use Rattle.ip_partition.specs.declared.part.PartCols.{PartCols}

@@ -1,13 +1,12 @@
 -- The entries of rows at unfixed columns: they stand in the grid, rise, are few, and those of kept rows are live.
-use Rattle.std.proofs.Common.{◌≡◌, ◌≢◌, ◌⊎◌, inl, inr, ◌+◌, ◌-◌, ◌<◌, ◌≤◌, ℕ, zero, suc, pos, Bool, true, false, cond, eqb, List, [], ◌∷◌, ◌++◌, length, get_or, map, filter, take, drop, refl, sym, ap, ◌∙◌, subst, arith}
-use Rattle.std.specs.List.{All, AllPairs, Contains, flat_map, list_any, range_with_len, sum_by}
-use Rattle.std.specs.List.Sorted.{IsStrictlyIncreasing}
+use Rattle.std.proofs.Common.{◌≡◌, inl, inr, ◌+◌, ◌-◌, ◌<◌, ◌≤◌, ℕ, zero, suc, pos, Bool, true, false, cond, eqb, List, [], ◌∷◌, ◌++◌, length, get_or, map, filter, take, drop, refl, sym, ap, ◌∙◌, subst, arith}
+use Rattle.std.specs.List.{All, AllPairs, flat_map, list_any, range_with_len}
 use Rattle.std.specs.Prelude.{not}
-use Rattle.std.proofs.lemmas.Bool.{cases_lt, cases_eq}
-use Rattle.std.proofs.lemmas.List.{append_assoc, append-nil, map-append, get_or_append_left, get_or-append_right, length-append, length-map, get_or-map, map-id, take_more, take_all, drop_more, get_or_default, get_or_read}
+use Rattle.std.proofs.lemmas.Bool.{cases_lt}
+use Rattle.std.proofs.lemmas.List.{append_assoc, append-nil, get_or_append_left, get_or-append_right, length-append, length-map, get_or-map, map-id, take_more, take_all, drop_more, get_or_read}
 use Rattle.std.proofs.lemmas.List.Concat.{flat_map-append}
-use Rattle.std.proofs.lemmas.List.Elements.{All-append, All-nil, All-filter, All-map, All-weaker, All-head, All-tail, All-contains, filter-append}
-use Rattle.std.proofs.lemmas.List.FromFn.{length-range_with_len, get_or-range_with_len, map-range_with_len_more}
+use Rattle.std.proofs.lemmas.List.Elements.{All-append, All-nil, All-filter, All-map, All-weaker, filter-append}
+use Rattle.std.proofs.lemmas.List.FromFn.{map-range_with_len_more}
 use Rattle.std.proofs.lemmas.List.Kept.{AllPairs-filter, AllPairs-from_increasing}
 use Rattle.std.proofs.lemmas.List.Sums.{sum_by-append, sum_by-cons}
 use Rattle.cross_links.specs.declared.entry.Entry.{Entry}
@@ -15,11 +14,10 @@ use Rattle.cross_links.specs.Entries.{IsBefore, AreRising}
 use Rattle.ip_rows.specs.declared.Bounds.{Bounds}
 use Rattle.ip_rows.specs.declared.rows.Coef.{Coef}
 use Rattle.ip_rows.specs.declared.rows.IpRow.{IpRow}
-use Rattle.ip_rows.specs.Rows.{AreTerms}
 use Rattle.ip_rows.specs.declared.program.IpColumn.{IpColumn}
 use Rattle.ip_rows.specs.Programs.{sides_of, row_at, is_fixed}
-use Rattle.ip_reduce.specs.Rows.{open_terms, IsLight}
-use Rattle.ip_reduce.specs.Reductions.{row_in, entries_at, entries_of}
+use Rattle.ip_reduce.specs.Rows.{open_terms}
+use Rattle.ip_reduce.specs.Reductions.{entries_at, entries_of}
 use Rattle.ip_reduce.specs.Entries.{AreEntered, entries_in, count_of}
 
 -- the numbers below one more

@@ -1,6 +1,6 @@
 -- The whole reduction.
-use Rattle.std.proofs.Common.{◌≡◌, ◌↔◌, ◌+◌, ◌<◌, ◌≤◌, ◌^◌, ℕ, ◌-ℤ◌, FitsSigned, w64, Option, None, Some, eqb, List, [], ◌∷◌, length, get_or, map, filter, refl, sym, ap, ◌∙◌, subst, arith}
-use Rattle.std.specs.List.{All, Contains, flat_map, list_any, range_with_len}
+use Rattle.std.proofs.Common.{◌≡◌, ◌+◌, ◌<◌, ◌^◌, ℕ, ◌-ℤ◌, FitsSigned, w64, Option, None, Some, eqb, List, [], length, get_or, filter, sym, ap, ◌∙◌, subst, arith}
+use Rattle.std.specs.List.{All, list_any, range_with_len}
 use Rattle.std.specs.Option.{MatchOption}
 use Rattle.std.specs.Prelude.{not}
 use Rattle.std.proofs.lemmas.List.{length-map}
@@ -13,9 +13,7 @@ use Rattle.ip_rows.specs.declared.program.IpColumn.{IpColumn}
 use Rattle.ip_rows.specs.declared.program.Program.{Program}
 use Rattle.ip_rows.specs.Rows.{AreTerms}
 use Rattle.ip_rows.specs.Programs.{IsWellFormed, IsMeasured, sides_of, is_fixed, fixed_sum}
-use Rattle.ip_reduce.specs.declared.outcome.Reduced.{Reduced}
-use Rattle.ip_reduce.specs.Rows.{IsLight}
-use Rattle.ip_reduce.specs.Reductions.{row_in, IsFalse, IsKept, IsFirstFalse, IsReduced, KeepsPoints}
+use Rattle.ip_reduce.specs.Reductions.{IsFalse, IsFirstFalse, IsReduced, KeepsPoints}
 use Rattle.ip_reduce.specs.Entries.{AreEntered, entries_in, count_of}
 use Rattle.ip_reduce.specs.Sieves.{IsSieved}
 use Rattle.ip_reduce.specs.Unlinking.{IsUnlinked}

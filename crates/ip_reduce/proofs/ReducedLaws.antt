@@ -1,5 +1,5 @@
 -- What is left of a program, for those who split it: its columns rise, lie in the grid, and have each live entry.
-use Rattle.std.proofs.Common.{◌≡◌, inl, inr, ◌+◌, ◌<◌, ℕ, zero, suc, pos, Bool, true, cond, List, [], ◌∷◌, ◌++◌, length, get_or, filter, sym, ap, subst, arith}
+use Rattle.std.proofs.Common.{◌≡◌, inl, inr, ◌+◌, ◌<◌, ℕ, zero, suc, pos, Bool, true, cond, List, [], ◌∷◌, length, get_or, filter, sym, subst, arith}
 use Rattle.std.specs.List.{All, Contains, flat_map, range_with_len}
 use Rattle.std.specs.List.Sorted.{IsStrictlyIncreasing}
 use Rattle.std.specs.Prelude.{not}
@@ -12,12 +12,11 @@ use Rattle.cross_links.specs.declared.entry.Entry.{Entry}
 use Rattle.cross_links.specs.Layout.{live}
 use Rattle.ip_rows.specs.declared.Bounds.{Bounds}
 use Rattle.ip_rows.specs.declared.rows.Coef.{Coef}
-use Rattle.ip_rows.specs.declared.rows.IpRow.{IpRow}
 use Rattle.ip_rows.specs.declared.program.Program.{Program}
 use Rattle.ip_rows.specs.Programs.{IsWellFormed, sides_of, is_fixed, row_at}
 use Rattle.ip_reduce.specs.declared.outcome.Reduced.{Reduced}
 use Rattle.ip_reduce.specs.Rows.{open_terms}
-use Rattle.ip_reduce.specs.Reductions.{entries_at, entries_of, IsReduced}
+use Rattle.ip_reduce.specs.Reductions.{entries_of, IsReduced}
 use Rattle.ip_reduce.proofs.EntryLemmas.{range_push, entry}
 use Rattle.ip_reduce.proofs.UnlinkLemmas.{range_below}
 

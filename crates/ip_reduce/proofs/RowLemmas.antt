@@ -1,5 +1,5 @@
 -- Rows that are equal, part by part.
-use Rattle.std.proofs.Common.{◌≡◌, ◌∙◌, ℤ, Bool, true, eqb, ◌&&◌, List, refl, ap, ap₂, subst}
+use Rattle.std.proofs.Common.{◌≡◌, ℤ, true, eqb, ◌&&◌, List, refl, ap₂, subst}
 use Rattle.std.specs.Bool.{Decides}
 use Rattle.std.specs.Ordering.{int_eq}
 use Rattle.std.proofs.lemmas.Bool.{and_parts, eq-eqb, eqb-true}

@@ -1,5 +1,5 @@
 -- Rows through a sieve, one after another.
-use Rattle.std.proofs.Common.{◌≡◌, ◌≢◌, ◌⊎◌, ◌↔◌, inl, inr, ◌+◌, ◌-◌, ◌<◌, ◌≤◌, ℕ, zero, suc, ℤ, pos, ◌+ℤ◌, ◌≤ℤ◌, ◌<ℤ◌, Bool, true, false, Option, None, Some, List, [], ◌∷◌, ◌++◌, length, get_or, map, refl, sym, ap, ◌∙◌, subst, arith}
+use Rattle.std.proofs.Common.{◌≡◌, ◌≢◌, ◌↔◌, inl, inr, ◌+◌, ◌<◌, ◌≤◌, ℕ, ℤ, pos, ◌≤ℤ◌, ◌<ℤ◌, Bool, true, false, Option, None, Some, List, [], ◌∷◌, ◌++◌, length, get_or, map, refl, sym, ap, ◌∙◌, subst, arith}
 use Rattle.std.specs.List.{All, Contains}
 use Rattle.std.specs.List.Sorted.{IsStrictlyIncreasing}
 use Rattle.std.specs.Option.{MatchOption, option_or}
@@ -12,7 +12,7 @@ use Rattle.ip_rows.specs.declared.rows.Coef.{Coef}
 use Rattle.ip_rows.specs.declared.rows.IpRow.{IpRow}
 use Rattle.ip_rows.specs.Programs.{row_at, IsBetween, Holds, sum_at}
 use Rattle.ip_reduce.specs.declared.sieve.Sieve.{Sieve}
-use Rattle.ip_reduce.specs.Rows.{least_sum, put_in, open_terms, IsLight}
+use Rattle.ip_reduce.specs.Rows.{least_sum, IsLight}
 use Rattle.ip_reduce.specs.Reductions.{row_in, Asks, IsFalse, IsKept}
 use Rattle.ip_reduce.specs.Sieves.{IsDropped, Takes, IsSieved}
 use Rattle.ip_reduce.proofs.SumLemmas.{light_open}

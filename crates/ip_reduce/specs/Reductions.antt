@@ -1,5 +1,5 @@
 -- What reduction leaves of a program.
-use Rattle.std.specs.Prelude.{◌≡◌, ◌≢◌, ◌↔◌, ℕ, ℤ, ◌<◌, ◌<ℤ◌, pos, Option, None, Some, MatchOption, not, List, [], ◌∷◌, length, map, filter, flat_map, All, Contains}
+use Rattle.std.specs.Prelude.{◌≡◌, ◌≢◌, ◌↔◌, ℕ, ℤ, ◌<◌, ◌<ℤ◌, pos, Option, None, MatchOption, not, List, [], length, map, filter, flat_map, All, Contains}
 use Rattle.std.specs.List.{range_with_len}
 use Rattle.std.specs.List.Sorted.{IsStrictlyIncreasing}
 use Rattle.cross_links.specs.declared.entry.Entry.{Entry}
@@ -10,7 +10,7 @@ use Rattle.ip_rows.specs.declared.rows.IpRow.{IpRow}
 use Rattle.ip_rows.specs.declared.program.Program.{Program}
 use Rattle.ip_rows.specs.Programs.{sides_of, is_fixed, row_at, IsBetween, Holds}
 use Rattle.ip_reduce.specs.declared.outcome.Reduced.{Reduced}
-use Rattle.ip_reduce.specs.Rows.{open_terms, put_in, least_sum}
+use Rattle.ip_reduce.specs.Rows.{put_in, least_sum}
 
 -- the row of a number, with the fixed columns put in
 abbrev pub row_in : List Bounds → List IpRow → ℕ → IpRow

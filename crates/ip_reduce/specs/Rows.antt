@@ -1,5 +1,5 @@
 -- Rows with the fixed columns put in, and the least that they come to.
-use Rattle.std.specs.Prelude.{◌≡◌, ℕ, ◌<◌, ◌≤◌, ◌^◌, ℤ, pos, ◌+ℤ◌, ◌-ℤ◌, ◌*ℤ◌, int_lt, not, if◌then◌else◌, List, [], ◌∷◌, length, filter, All}
+use Rattle.std.specs.Prelude.{◌<◌, ◌≤◌, ◌^◌, ℤ, pos, ◌+ℤ◌, ◌-ℤ◌, ◌*ℤ◌, int_lt, not, if◌then◌else◌, List, [], ◌∷◌, length, filter, All}
 use Rattle.ip_rows.specs.declared.Bounds.{Bounds}
 use Rattle.ip_rows.specs.declared.rows.Coef.{Coef}
 use Rattle.ip_rows.specs.declared.rows.IpRow.{IpRow}

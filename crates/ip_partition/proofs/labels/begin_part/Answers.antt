@@ -1,4 +1,4 @@
-use Rattle.std.proofs.Common.{◌+◌, ◌∙◌, length, length-set, arith}
+use Rattle.std.proofs.Common.{length, length-set, arith}
 use Rattle.ip_partition.proofs.ColumnLemmas.{room_same}
 use Rattle.ip_partition.proofs.LabelLemmas.{part_begins_by}
 use Rattle.ip_partition.proofs.labels.begin_part.Goals as goal

@@ -1,4 +1,4 @@
-use Rattle.std.proofs.Common.{◌≡◌, ◌+◌, ◌<◌, ◌∙◌, ℕ, false, List, length, arith, sym, subst}
+use Rattle.std.proofs.Common.{◌∙◌, ℕ, false, List, arith, sym, subst}
 use Rattle.ip_partition.specs.Spreading.{AreLabels}
 use Rattle.ip_partition.proofs.ColumnLemmas.{room_same}
 use Rattle.ip_partition.proofs.LabelLemmas.{equal_length, all_equal, all_within, written_back}

@@ -1,4 +1,3 @@
-use Rattle.std.proofs.Common.{sym}
 use Rattle.ip_partition.proofs.SizeLemmas.{last_greatest, last_within, last_none}
 use Rattle.ip_partition.proofs.sizes.columns_end.Goals as goal
 

@@ -1,4 +1,4 @@
-use Rattle.std.proofs.Common.{◌≡◌, ◌+◌, ◌<◌, ◌∙◌, ℕ, max, get_or, arith, sym, subst}
+use Rattle.std.proofs.Common.{◌≡◌, ◌+◌, ◌∙◌, max, arith, sym, subst}
 use Rattle.ip_partition.proofs.SizeLemmas.{AreBeyond, greater_is, ends_more, ends_all}
 use Rattle.ip_partition.proofs.sizes.rows_end.Goals as goal
 

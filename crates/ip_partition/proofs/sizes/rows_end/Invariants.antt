@@ -1,4 +1,4 @@
-use Rattle.std.proofs.Common.{ℕ, ◌≤◌, ◌^◌}
+use Rattle.std.proofs.Common.{◌≤◌, ◌^◌}
 use Rattle.ip_partition.proofs.SizeLemmas.{AreBeyond}
 use Rattle.ip_partition.proofs.sizes.rows_end.Given as goal
 

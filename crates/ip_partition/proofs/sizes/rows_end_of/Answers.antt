@@ -1,4 +1,4 @@
-use Rattle.std.proofs.Common.{◌∙◌, ◌≡◌, ◌+◌, ◌<◌, ◌^◌, List, ℕ, arith, max, sym, subst, rules}
+use Rattle.std.proofs.Common.{◌∙◌, ◌+◌, ◌<◌, List, ℕ, sym, subst, rules}
 use Rattle.std.specs.List.{All}
 use Rattle.ip_partition.proofs.SizeLemmas.{IsBeyond, greater_is, beyond_begins, beyond_more, beyond_all}
 use Rattle.ip_partition.proofs.sizes.rows_end_of.Goals as goal

@@ -1,4 +1,4 @@
-use Rattle.std.proofs.Common.{◌≡◌, ◌+◌, ◌-◌, ◌<◌, length, get_or, arith}
+use Rattle.std.proofs.Common.{◌≡◌, ◌-◌, length, get_or, arith}
 use Rattle.ip_partition.specs.Spreading.{part_of}
 use Rattle.ip_partition.proofs.FillLemmas.{columns_begin, columns_step, columns_done}
 use Rattle.ip_partition.proofs.split.add_columns.Goals as goal

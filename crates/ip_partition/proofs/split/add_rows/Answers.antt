@@ -1,4 +1,4 @@
-use Rattle.std.proofs.Common.{◌≡◌, ◌+◌, ◌-◌, ◌<◌, ◌≤◌, ◌∙◌, List, length, arith, sym, subst}
+use Rattle.std.proofs.Common.{◌≡◌, ◌+◌, ◌-◌, List, length, arith, sym, subst}
 use Rattle.std.specs.List.{range_with_len}
 use Rattle.cross_links.specs.Layout.{live_columns}
 use Rattle.ip_partition.specs.declared.part.PartCols.{PartCols}

@@ -1,4 +1,4 @@
-use Rattle.std.proofs.Common.{◌≡◌, ◌<◌, ◌∙◌, sym, ap}
+use Rattle.std.proofs.Common.{◌∙◌, sym, ap}
 use Rattle.ip_partition.specs.Spreading.{first_part}
 use Rattle.ip_partition.proofs.RowLemmas.{first_is_live}
 use Rattle.ip_partition.proofs.split.label_of_row.Goals as goal

@@ -1,4 +1,4 @@
-use Rattle.std.proofs.Common.{◌≡◌, ◌+◌, ◌<◌, ◌≤◌, ◌∙◌, ℕ, List, length, arith, sym, subst}
+use Rattle.std.proofs.Common.{◌≡◌, ◌∙◌, arith}
 use Rattle.ip_partition.proofs.Among.{at_place}
 use Rattle.ip_partition.proofs.PartLemmas.{parts_are, labels_within, ends_have_room, labels_are, columns_labelled, live_labelled}
 use Rattle.ip_partition.proofs.LabelLemmas.{written_back}

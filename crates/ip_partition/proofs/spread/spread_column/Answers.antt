@@ -1,4 +1,4 @@
-use Rattle.std.proofs.Common.{◌≡◌, ◌+◌, ◌<◌, ◌∙◌, length, get_or, arith}
+use Rattle.std.proofs.Common.{◌∙◌, length, arith}
 use Rattle.std.proofs.lemmas.List.{get_or_read}
 use Rattle.ip_partition.proofs.ColumnLemmas.{read_within, column_begins, next_row_is_live, column_skips, column_gains, column_ends}
 use Rattle.ip_partition.proofs.spread.spread_column.Goals as goal

@@ -1,4 +1,4 @@
-use Rattle.std.proofs.Common.{◌≡◌, ◌+◌, ◌<◌, ◌∙◌, length, arith}
+use Rattle.std.proofs.Common.{◌∙◌, arith}
 use Rattle.ip_partition.proofs.RowLemmas.{row_begins, row_skips, row_gains_by, row_ends, next_is_live}
 use Rattle.ip_partition.proofs.spread.spread_row.Goals as goal
 

@@ -1,4 +1,4 @@
-use Rattle.std.proofs.Common.{◌≡◌, ◌+◌, ◌<◌, ◌%◌, ℕ, List, length, get_or, ap, arith}
+use Rattle.std.proofs.Common.{◌%◌, ℕ, List, length, get_or, ap, arith}
 use Rattle.std.proofs.lemmas.List.{length_push}
 use Rattle.ip_reduce.proofs.ChainLemmas.{linked_append}
 use Rattle.ip_reduce.proofs.chains.append.Goals as goal

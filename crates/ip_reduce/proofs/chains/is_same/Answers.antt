@@ -1,4 +1,4 @@
-use Rattle.std.proofs.Common.{◌≡◌, ◌∙◌, FitsSigned, of_z, w64, ap, sym, rules}
+use Rattle.std.proofs.Common.{◌∙◌, FitsSigned, of_z, w64, ap, sym, rules}
 use Rattle.std.proofs.lemmas.Bool.{eqb-true}
 use Rattle.ip_rows.specs.declared.rows.IpRow.{IpRow}
 use Rattle.ip_reduce.proofs.Casts.{same_number}

@@ -1,4 +1,4 @@
-use Rattle.std.proofs.Common.{◌≡◌, ◌+◌, ◌-◌, ◌<◌, ◌%◌, ◌∙◌, length, refl, sym, arith}
+use Rattle.std.proofs.Common.{◌-◌, ◌∙◌, length, refl, arith}
 use Rattle.std.proofs.lemmas.Bool.{false≢true}
 use Rattle.ip_reduce.proofs.ChainLemmas.{seek_begins, seek_goes_on, next_falls, not_there, is_there, read_row, read_hash}
 use Rattle.ip_reduce.proofs.chains.seek.Goals as goal

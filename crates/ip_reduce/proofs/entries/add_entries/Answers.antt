@@ -1,4 +1,4 @@
-use Rattle.std.proofs.Common.{◌≡◌, ◌++◌, ◌+◌, ◌∙◌, pos, Vec, Global, List, drop, filter, get_or, ap}
+use Rattle.std.proofs.Common.{◌++◌, ◌+◌, ◌∙◌, pos, Vec, Global, drop, get_or, ap}
 use Rattle.std.specs.Prelude.{not}
 use Rattle.cross_links.specs.declared.entry.Entry.{Entry}
 use Rattle.ip_rows.specs.declared.rows.Coef.{Coef}

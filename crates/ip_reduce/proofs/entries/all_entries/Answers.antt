@@ -1,4 +1,4 @@
-use Rattle.std.proofs.Common.{◌≡◌, List, subst, sym}
+use Rattle.std.proofs.Common.{List, subst, sym}
 use Rattle.ip_rows.specs.declared.rows.Coef.{Coef}
 use Rattle.ip_rows.specs.declared.rows.IpRow.{IpRow}
 use Rattle.ip_rows.specs.Programs.{sides_of}

@@ -1,4 +1,4 @@
-use Rattle.std.proofs.Common.{◌≡◌, ◌+◌, ◌∙◌, pos, List, drop, filter, get_or}
+use Rattle.std.proofs.Common.{◌+◌, ◌∙◌, pos, drop, get_or}
 use Rattle.std.specs.Prelude.{not}
 use Rattle.ip_rows.specs.declared.rows.Coef.{Coef}
 use Rattle.ip_rows.specs.Programs.{sides_of, is_fixed}

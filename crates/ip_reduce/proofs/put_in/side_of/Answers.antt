@@ -1,4 +1,4 @@
-use Rattle.std.proofs.Common.{◌<◌, pos, length, get_or, sym}
+use Rattle.std.proofs.Common.{pos, sym}
 use Rattle.std.proofs.lemmas.List.{get_or-map}
 use Rattle.ip_rows.specs.declared.program.IpColumn.{IpColumn}
 use Rattle.ip_reduce.proofs.put_in.side_of.Goals as goal

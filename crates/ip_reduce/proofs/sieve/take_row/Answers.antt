@@ -1,4 +1,4 @@
-use Rattle.std.proofs.Common.{◌≡◌, ◌++◌, ◌∷◌, ◌∙◌, inl, inr, List, [], refl, sym, ap, subst}
+use Rattle.std.proofs.Common.{◌++◌, ◌∷◌, ◌∙◌, inl, inr, List, [], refl, sym, ap, subst}
 use Rattle.std.proofs.lemmas.Bool.{false≢true}
 use Rattle.std.specs.List.{Contains}
 use Rattle.ip_rows.specs.declared.rows.IpRow.{IpRow}

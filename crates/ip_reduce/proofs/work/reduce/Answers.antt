@@ -1,4 +1,4 @@
-use Rattle.std.proofs.Common.{◌≡◌, ◌∙◌, ap}
+use Rattle.std.proofs.Common.{ap}
 use Rattle.cross_links.specs.Layout.{Layout}
 use Rattle.ip_reduce.proofs.ReduceLemmas.{slices_entered, slices_few, slices_fit, slices_short, columns_few, made_reduced, made_keeps}
 use Rattle.ip_reduce.proofs.work.reduce.Goals as goal
