@@ -1,0 +1,13 @@
+pub mod Each
+pub mod Numbers
+pub mod FormLemmas
+pub mod Bits
+pub mod Gadgets
+pub mod StandLemmas
+pub mod ColumnLemmas
+pub mod JoinLemmas
+pub mod RowLemmas
+pub mod LoopLemmas
+pub mod LightLemmas
+pub mod OneRow
+pub mod Telling

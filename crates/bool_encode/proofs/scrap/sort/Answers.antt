@@ -1,0 +1,8 @@
+use Rattle.std.proofs.Common.{rules}
+use Rattle.std.proofs.lemmas.List.Sorted.{IsNonDecreasingBy-from_sort_by_key}
+use Rattle.bool_encode.specs.declared.scrap.Scrap.{Scrap}
+use Rattle.bool_encode.proofs.scrap.sort.Goals as goal
+
+pub returns-clause-sorted : goal.returns-clause-sorted
+returns-clause-sorted c =
+    IsNonDecreasingBy-from_sort_by_key (λ (s : Scrap). s.column) _ c.in_ok-sort_by_key.ensures.sorted (λ a r q k. search rules)
