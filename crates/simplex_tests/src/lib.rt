@@ -3,6 +3,8 @@
 
 mod asked;
 #[cfg(test)]
+mod many;
+#[cfg(test)]
 mod worked;
 
 pub use asked::{Asked, Factors};
