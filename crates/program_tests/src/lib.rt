@@ -1,0 +1,5 @@
+//! Tests of the public calls of the crates that make programs of formulas and write them.
+#![tactic(auto)]
+
+#[cfg(test)]
+mod text;

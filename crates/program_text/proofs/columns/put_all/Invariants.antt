@@ -1,0 +1,6 @@
+use Rattle.program_text.specs.Text as spec
+use Rattle.program_text.proofs.Numbered.{Written}
+use Rattle.program_text.proofs.columns.put_all.Given as goal
+
+abbrev pub invariant-loop-number : goal.invariant-loop-number
+invariant-loop-number l = Written (spec.column_line l.stands) l.columns l.number l.initial.out.items l.out.items
