@@ -1,0 +1,10 @@
+pub mod Gadgets
+pub mod Sizes
+pub mod Weights
+pub mod Named
+pub mod Aids
+pub mod Telling
+pub mod Ready
+pub mod Choices
+pub mod LeastGadget
+pub mod LeastForms

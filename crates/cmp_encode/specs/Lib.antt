@@ -1,0 +1,4 @@
+pub mod Light
+pub mod Matched
+pub mod Spans
+pub mod Tables
