@@ -1,0 +1,4 @@
+pub mod Cells
+pub mod Hypos
+pub mod Possible
+pub mod Walks
