@@ -1,0 +1,5 @@
+pub mod Asked
+pub mod ByKind
+pub mod Meant
+pub mod Sums
+pub mod Telling
