@@ -1,4 +1,3 @@
 pub mod Light
-pub mod Matched
 pub mod Spans
 pub mod Tables

@@ -1,0 +1,10 @@
+pub mod Places
+pub mod Bits
+pub mod Named
+pub mod WorldNumbers
+pub mod Rights
+pub mod LeastNames
+pub mod Narrow
+pub mod Picks
+pub mod WorldPoints
+pub mod Whole
