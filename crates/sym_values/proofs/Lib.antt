@@ -1,0 +1,9 @@
+pub mod Agreed
+pub mod Checked
+pub mod Comparing
+pub mod Equations
+pub mod Fits
+pub mod Making
+pub mod Numbering
+pub mod PlainValues
+pub mod Truths
