@@ -1,0 +1,9 @@
+pub mod Formed
+pub mod Holding
+pub mod OneRow
+pub mod Pushed
+pub mod Ready
+pub mod Telling
+pub mod Tied
+pub mod Ties
+pub mod Worlds
