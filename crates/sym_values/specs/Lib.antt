@@ -1,4 +1,5 @@
 pub mod Conditions
+pub mod Left
 pub mod Meanings
 pub mod Numbers
 pub mod Steps
