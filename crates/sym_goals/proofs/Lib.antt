@@ -1,0 +1,3 @@
+pub mod Objective
+pub mod Requirements
+pub mod Turns

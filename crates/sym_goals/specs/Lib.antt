@@ -1,0 +1,4 @@
+pub mod Goals
+pub mod Meant
+pub mod Parts
+pub mod Shares
