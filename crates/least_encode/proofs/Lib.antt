@@ -1,0 +1,5 @@
+pub mod Weights
+pub mod Loops
+pub mod Gadget
+pub mod Ready
+pub mod Telling
