@@ -1,0 +1,6 @@
+pub mod Used
+pub mod Marks
+pub mod Columns
+pub mod Laid
+pub mod Aids
+pub mod Places
