@@ -4,4 +4,6 @@ pub mod NameLemmas
 pub mod OrLemmas
 pub mod CountLemmas
 pub mod ListedLemmas
+pub mod SeedLemmas
+pub mod TakeLemmas
 pub mod UsedLaws

@@ -4,3 +4,4 @@ pub mod Columns
 pub mod Laid
 pub mod Aids
 pub mod Places
+pub mod Seeds

@@ -4,9 +4,11 @@
 mod beside;
 mod fault;
 mod layout;
+mod rows;
 mod walk;
 
 pub use beside::aid;
 pub use fault::ColumnsFault;
 pub use layout::{Layout, columns_for};
+pub use rows::seeds;
 pub use walk::used;
