@@ -1,18 +1,16 @@
 -- Totals of factors, and the nodes where they are not 0.
-use Rattle.std.proofs.Common.{◌≡◌, ◌≢◌, ◌∙◌, sym, ap, subst, refl, ℕ, zero, suc, ◌+◌, ◌<◌, ◌≤◌, ◌^◌, ◌↔◌, ◌==◌, ◌||◌, if◌then◌else◌, cond, Bool, true, false, ◌⊎◌, inl, inr, ⊎_elim, ℤ, pos, negsuc, ◌+ℤ◌, ◌*ℤ◌, unsigned_abs, List, [], ◌∷◌, ◌++◌, length, take, drop, get_or, set, replicate, map, All, Contains, arith}
-use Rattle.std.specs.List.{flat_map, list_any}
-use Rattle.std.specs.Ordering.{int_eq}
+use Rattle.std.proofs.Common.{◌≡◌, ◌≢◌, ◌∙◌, sym, ap, subst, refl, ℕ, zero, suc, ◌+◌, ◌<◌, ◌≤◌, ◌^◌, ◌==◌, if◌then◌else◌, Bool, true, false, ⊎_elim, ℤ, pos, negsuc, ◌+ℤ◌, ◌*ℤ◌, unsigned_abs, List, [], ◌∷◌, ◌++◌, length, take, drop, get_or, set, replicate, All, arith}
+use Rattle.std.specs.List.{flat_map}
 use Rattle.std.proofs.lemmas.Int.{ints}
 use Rattle.std.proofs.lemmas.Bool.{cases_eq}
-use Rattle.std.proofs.lemmas.Bool.Decides.{Decides-eqb, Decides-int_eq}
-use Rattle.std.proofs.lemmas.List.{append_assoc, append-nil, drop_more, drop_all, take_more, take_all, length-append, length-set, length-replicate, get_or_append_left, get_or-set_same, get_or-set_other, get_or-replicate, get_or_default, ext_get_or, take-append-drop}
+use Rattle.std.proofs.lemmas.Bool.Decides.{Decides-eqb}
+use Rattle.std.proofs.lemmas.List.{append_assoc, append-nil, drop_more, drop_all, take_more, take_all, length-append, length-set, length-replicate, get_or_append_left, get_or-set_same, get_or-set_other, take-append-drop}
 use Rattle.std.proofs.lemmas.List.Elements.{All-append}
 use Rattle.prov_arena.specs.declared.part.Term.{Term}
 use Rattle.prov_arena.specs.Formulas.{Formula, FalseNode, TrueNode, PresNode, CellNode, PosNode, NotNode, AndNode, OrNode, LinNode, GuardNode, AbsNode, TotNode, MinNode, kids_of}
 use Rattle.prov_fold.specs.Graphs.{Graph, node, size}
 use Rattle.prov_fold.specs.Folds.{IsFold}
 use Rattle.prov_fold.specs.Rules.{factor_at, scaled}
-use Rattle.prov_fold.specs.Sums.{added_by, total_by}
 use Rattle.prov_fold.proofs.SpreadLemmas.{added_append, total_append}
 use Rattle.bool_encode.specs.declared.form.Key.{Key}
 use Rattle.bool_encode.specs.declared.form.Key.TheVariants as key
@@ -146,8 +144,8 @@ module _ (n : ℕ) (ts : List Term) (i : ℕ) (t : Term) (totals : List ℤ) (lt
       ⊎_elim
       (λ same. ap (λ k. get_or (set totals t.node new) k (pos 0)) same ∙ get_or-set_same totals t.node new (pos 0) (omega (arith, there, count)) ∙ total_next ∙ ap (factor_at (take (i + 1) ts)) (sym same))
       (λ other.
-          get_or-set_other totals t.node z new (pos 0) other ∙ are.each z less
-          ∙ sym (factor_more ts i z t lt is ∙ ap (λ m. factor_at (take i ts) z +ℤ m) (else_cond t z (λ e. other (sym e))) ∙ omega (arith, ints)))
+      get_or-set_other totals t.node z new (pos 0) other ∙ are.each z less
+      ∙ sym (factor_more ts i z t lt is ∙ ap (λ m. factor_at (take i ts) z +ℤ m) (else_cond t z (λ e. other (sym e))) ∙ omega (arith, ints)))
       (cases_eq z t.node)
 
   pub totals_next : (next : List ℤ) → next ≡ set totals t.node (get_or totals t.node (pos 0) +ℤ t.factor) → AreTotals n (take (i + 1) ts) next

@@ -1,8 +1,7 @@
 -- Taking the nodes whose totals are not 0, one term after another.
-use Rattle.std.proofs.Common.{◌≡◌, ◌≢◌, ◌∙◌, sym, ap, subst, refl, ℕ, zero, suc, ◌+◌, ◌<◌, ◌≤◌, ◌↔◌, ◌==◌, ◌||◌, if◌then◌else◌, cond, Bool, true, false, ◌⊎◌, inl, inr, ⊎_elim, ℤ, pos, ◌+ℤ◌, List, [], ◌∷◌, ◌++◌, length, take, get_or, set, replicate, All, Contains, arith}
+use Rattle.std.proofs.Common.{◌≡◌, ◌≢◌, ◌∙◌, sym, ap, subst, refl, ℕ, ◌+◌, ◌<◌, ◌≤◌, ◌↔◌, ◌==◌, ◌||◌, if◌then◌else◌, cond, Bool, true, false, ◌⊎◌, inl, inr, ⊎_elim, ℤ, pos, ◌+ℤ◌, List, [], ◌∷◌, ◌++◌, length, take, get_or, set, replicate, Contains, arith}
 use Rattle.std.specs.List.{list_any}
 use Rattle.std.specs.Ordering.{int_eq}
-use Rattle.std.proofs.lemmas.Int.{ints}
 use Rattle.std.proofs.lemmas.Bool.{cases_eq}
 use Rattle.std.proofs.lemmas.Bool.Decides.{Decides-eqb, Decides-int_eq}
 use Rattle.std.proofs.lemmas.List.{take_more, take_all, length-set, length-replicate, get_or-set_same, get_or-set_other, get_or-replicate, ext_get_or}
@@ -102,8 +101,8 @@ module _ (n : ℕ) (ts : List Term) (i : ℕ) (t : Term) (lt : i < length ts) (i
       ap (λ (m : List ℤ). get_or m z (pos 0)) zeroed
       ∙ ⊎_elim
       (λ same.
-          ap (λ x. get_or (set totals k (pos 0)) x (pos 0)) same ∙ get_or-set_same totals k (pos 0) (pos 0) (omega (arith, there, count))
-          ∙ sym (ap (λ x. cond (among x (take (i + 1) ts)) (pos 0) (factor_at ts x)) same ∙ ap (λ b. cond b (pos 0) (factor_at ts k)) among_self))
+      ap (λ x. get_or (set totals k (pos 0)) x (pos 0)) same ∙ get_or-set_same totals k (pos 0) (pos 0) (omega (arith, there, count))
+      ∙ sym (ap (λ x. cond (among x (take (i + 1) ts)) (pos 0) (factor_at ts x)) same ∙ ap (λ b. cond b (pos 0) (factor_at ts k)) among_self))
       (λ other. get_or-set_other totals k z (pos 0) (pos 0) other ∙ are.left z less ∙ sym (ap (λ b. cond b (pos 0) (factor_at ts z)) (among_other z other)))
       (cases_eq z k)
 
@@ -162,7 +161,7 @@ module _ (n i : ℕ) (ts : List Term) (totals : List ℤ) (seeds : List ℕ) (le
   all_done = take_all i ts le
 
   among_there : (z : ℕ) → factor_at ts z ≢ pos 0 → among z (take i ts) ≡ true
-  among_there z ne = ap (among z) all_done ∙ ⊎_elim (λ yes_ . yes_) (λ none. absurd (ne (factor_none ts z none))) (by_bool (among z ts))
+  among_there z ne = ap (among z) all_done ∙ ⊎_elim (λ yes_. yes_) (λ none. absurd (ne (factor_none ts z none))) (by_bool (among z ts))
 
   pub taken_seeds : (z : ℕ) → Contains seeds z ↔ (factor_at ts z ≢ pos 0)
   taken_seeds z = (λ c. ((are.taken z).0 c).1, λ ne. (are.taken z).1 (among_there z ne, ne))

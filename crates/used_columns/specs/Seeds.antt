@@ -2,7 +2,7 @@
 use Rattle.std.specs.Prelude.{◌≡◌, ◌≢◌, ◌<◌, ℕ, ℤ, pos, negsuc, List, [], ◌∷◌, flat_map, length, slice_index_or, unsigned_abs}
 use Rattle.prov_arena.specs.declared.part.Term.{Term}
 use Rattle.prov_arena.specs.Formulas.{Formula, FalseNode, TrueNode, NotNode, LinNode}
-use Rattle.prov_fold.specs.Graphs.{Graph, node, size}
+use Rattle.prov_fold.specs.Graphs.{Graph, node}
 use Rattle.prov_fold.specs.Rules.{factor_at, scaled}
 use Rattle.prov_fold.specs.Sums.{added_by}
 use Rattle.bool_encode.specs.declared.form.Key.{Key}

@@ -60,12 +60,7 @@ fn spread_one(fold: &Fold<'_>, terms: &mut Vec<Term>, piece: Piece) -> Result<()
 }
 
 /// Appends the terms of a node, times a factor.
-fn spread_node(
-    fold: &Fold<'_>,
-    terms: &mut Vec<Term>,
-    factor: i64,
-    id: u32,
-) -> Result<(), Memory>
+fn spread_node(fold: &Fold<'_>, terms: &mut Vec<Term>, factor: i64, id: u32) -> Result<(), Memory>
     requires there { id < size fold.now }
     requires small { All (λ (t : TheTerm). unsigned_abs t.factor < 2 ^ 63) (scaled factor (terms_of id (node fold.now id))) }
     ensures { OnOk result (terms.new.items ≡ terms.old.items ++ scaled factor (terms_of id (node fold.now id))) }

@@ -1,4 +1,4 @@
-use Rattle.std.proofs.Common.{rules, ◌≡◌, ◌∙◌, ◌<◌, ◌^◌, sym, ap, subst, ℤ, pos, ◌+ℤ◌, unsigned_abs, to_z, of_z, w64, FitsSigned, length, get_or, set}
+use Rattle.std.proofs.Common.{rules, ◌≡◌, ◌∙◌, ◌<◌, ◌^◌, sym, ap, subst, pos, ◌+ℤ◌, unsigned_abs, to_z, of_z, w64, FitsSigned, length, get_or, set}
 use Rattle.std.proofs.Math.Facts.{to_z-of_z}
 use Rattle.std.proofs.lemmas.Int.{fits_signed_from_abs}
 use Rattle.std.proofs.lemmas.List.{get_or_default}
@@ -26,7 +26,7 @@ sum-requires c =
     let t : Term = get_or c.args.terms.now c.loop-term.term-index (record { factor = pos 0; node = 0 }) in
     subst (λ m. unsigned_abs m < 2 ^ 63) (sym (sum_is c))
     (total_fits (length c.args.totals.now) c.args.terms.now c.loop-term.term-index t c.loop-term.totals c.loop-term-test.true (get_or_default c.args.terms.now c.loop-term.term-index blank t c.loop-term-test.true)
-        (c.requires.there c.loop-term.term-index blank c.loop-term-test.true) c.loop-term.invariant c.requires.light)
+    (c.requires.there c.loop-term.term-index blank c.loop-term-test.true) c.loop-term.invariant c.requires.light)
 
 pub loop-term-preserved : goal.loop-term-preserved
 loop-term-preserved c =

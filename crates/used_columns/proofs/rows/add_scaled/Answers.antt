@@ -1,4 +1,4 @@
-use Rattle.std.proofs.Common.{◌≡◌, ◌<◌, ◌^◌, ◌∙◌, sym, ap, subst, ℤ, pos, unsigned_abs, to_z, of_z, w64, get_or, length, All}
+use Rattle.std.proofs.Common.{◌<◌, ◌^◌, sym, subst, ℤ, pos, unsigned_abs, to_z, of_z, w64, All}
 use Rattle.std.proofs.Math.Facts.{to_z-of_z}
 use Rattle.prov_arena.specs.declared.part.Term.{Term}
 use Rattle.prov_fold.specs.Rules.{scaled}

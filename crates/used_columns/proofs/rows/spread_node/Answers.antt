@@ -1,4 +1,4 @@
-use Rattle.std.proofs.Common.{◌≡◌, ◌<◌, ◌^◌, ◌∙◌, sym, ap, subst, unsigned_abs, All}
+use Rattle.std.proofs.Common.{◌<◌, ◌^◌, ◌∙◌, sym, ap, subst, unsigned_abs, All}
 use Rattle.std.proofs.Math.Facts.{to_z-of_z}
 use Rattle.prov_arena.specs.declared.part.Term.{Term}
 use Rattle.prov_arena.specs.Graphs.{at}

@@ -1,4 +1,4 @@
-use Rattle.std.proofs.Common.{rules, ◌≡◌, ◌<◌, ◌^◌, ◌∙◌, sym, ap, subst, unsigned_abs, FitsSigned, w64, All}
+use Rattle.std.proofs.Common.{rules, ◌<◌, ◌^◌, sym, subst, unsigned_abs, FitsSigned, w64, All}
 use Rattle.std.proofs.Math.Facts.{to_z-of_z}
 use Rattle.prov_arena.specs.declared.part.Term.{Term}
 use Rattle.prov_fold.specs.Graphs.{node}

@@ -1,4 +1,4 @@
-use Rattle.std.proofs.Common.{◌≡◌, ◌<◌, sym, subst, pos, take, length, get_or}
+use Rattle.std.proofs.Common.{sym, subst, pos, take, length, get_or}
 use Rattle.std.proofs.lemmas.List.{get_or_default}
 use Rattle.prov_arena.specs.declared.part.Term.{Term}
 use Rattle.used_columns.proofs.TakeLemmas.{AreTaken, taken_begin, taken_more, taken_seeds, taken_totals}
