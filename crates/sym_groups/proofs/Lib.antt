@@ -1,0 +1,12 @@
+pub mod Beside
+pub mod Extremes
+pub mod Finals
+pub mod Fitting
+pub mod Gathering
+pub mod Grouping
+pub mod Groupwise
+pub mod ItemCells
+pub mod Listed
+pub mod OncePlain
+pub mod Shown
+pub mod Sums
