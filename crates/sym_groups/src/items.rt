@@ -1,6 +1,6 @@
 //! The items of a group of possible rows.
 
-ghost use Rattle.std.specs.Prelude.{◌≡◌, ◌≤◌, ◌∷◌, [], length, map, option_map, All, IfOk, OnOk, ◌++◌};
+ghost use Rattle.std.specs.Prelude.{◌≡◌, ◌+◌, ◌^◌, ◌<◌, ◌≤◌, ◌==◌, ◌&&◌, ◌∷◌, [], length, map, option_map, All, IfOk, OnOk, ◌++◌};
 ghost use Rattle.std.specs.Option.{option_to_list};
 ghost use Rattle.prov_fold.specs.Graphs.{HasNumber, HasTruth, HasPair};
 ghost use Rattle.sym_rows.specs.Cells.{AreRowsOf, IsCellOf};
@@ -31,13 +31,22 @@ pub(crate) fn item_cells(
     ensures { Makes (spec.item_cells columns.now keys.now items.now (map (λ row. row.now) group.now) fold.old) (λ g made. All (IsCellOf g) made) (meaning.AreItemsThen columns.now keys.now items.now (map (λ row. row.now) group.now)) fold.old result fold.new }
 {
     let mut made = List::new(alloc);
-    let mut place = keys.len();
+    let mut place = first_place(keys, items);
     for (at, item) in items.iter().enumerate() {
         let unknown = is_unknown_in(columns, at);
         made.push(item_cell(alloc, fold, unknown, keys, place, group, item)?)?;
         place += argument_count(item);
     }
     Ok(made)
+}
+
+/// The place of the first argument, behind which there is room for an argument of each item.
+fn first_place(keys: &[At], items: &[Item]) -> usize
+    ensures value { result ≡ length keys.now }
+    ensures room { result + length items.now < 2 ^ 64 }
+{
+    let _count = items.len();
+    keys.len()
 }
 
 /// How many arguments an item has in what a combination leaves.
@@ -171,11 +180,18 @@ fn place_of(at: At, keys: &[At]) -> usize
     ensures { result ≡ spec.place_of at keys.now }
 {
     for (place, key) in keys.iter().enumerate() {
-        if key.source == at.source && key.column == at.column {
+        if is_column(*key, at) {
             return place;
         }
     }
     keys.len()
+}
+
+/// Whether two columns are one.
+fn is_column(key: At, at: At) -> bool
+    ensures { result ≡ (key.source == at.source && key.column == at.column) }
+{
+    key.source == at.source && key.column == at.column
 }
 
 /// The value that a group has in a fixed column.

@@ -9,4 +9,4 @@ returns-in_ok-constant c =
     known_ok c.args.unknown c.args.value c.args.fold.now c.constant.new.fold _ c.in_ok-constant.field-0 c.if-unknown.true (to_z-of_z fits ∙ c.number_in.ensures) c.in_ok-constant.ensures
 
 pub returns-else-unknown : goal.returns-else-unknown
-returns-else-unknown c = ?
+returns-else-unknown c = fixed_ok c.args.unknown c.args.value c.args.value c.args.fold.now c.if-unknown.false refl
