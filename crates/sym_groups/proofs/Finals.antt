@@ -1,11 +1,8 @@
 -- what the public calls make
-use Rattle.std.proofs.Common.{◌≡◌, ◌≢◌, ◌∙◌, sym, ap, ap₂, subst, refl, ℕ, suc, ◌+◌, ◌<◌, ◌==◌, ℤ, pos, Bool, true, false, cond, List, [], ◌∷◌, ◌++◌, length, get_or, take, map, filter, flat_map, All, Result, Ok, Err, arith}
-use Rattle.std.specs.Prelude.{Option, Some, None, IfOk, unwrap_or}
+use Rattle.std.proofs.Common.{◌≡◌, ◌≢◌, ◌∙◌, sym, ap, subst, refl, ℕ, suc, ◌==◌, ℤ, Bool, true, false, cond, List, [], ◌∷◌, ◌++◌, length, take, map, flat_map, All, Result, Ok, Err, arith}
 use Rattle.std.specs.Cmp.{unsigned_Decides}
-use Rattle.std.specs.List.{list_any, AllZip}
 use Rattle.std.proofs.lemmas.List.{length-map}
-use Rattle.std.specs.Option.{option_to_list}
-use Rattle.std.proofs.lemmas.List.Elements.{All-nil, All-cons, All-append}
+use Rattle.std.proofs.lemmas.List.Elements.{All-nil, All-cons}
 use Rattle.std.specs.Ordering.{is_eq}
 use Rattle.base_kit.specs.Orders.{row_order}
 use Rattle.base_kit.specs.declared.value.Value.{Value}
@@ -15,20 +12,18 @@ use Rattle.tiql_query.specs.declared.view.Item.{Item}
 use Rattle.tiql_query.specs.declared.view.Select.{Select}
 use Rattle.row_values.specs.Values.{Combination, cell}
 use Rattle.view_select.specs.Selects.{distinct, is_grouped, row_of, key_of}
-use Rattle.prov_fold.specs.Graphs.{Graph, Keeps}
-use Rattle.prov_fold.specs.Meanings.{IsLater, Means, values_in}
+use Rattle.prov_fold.specs.Graphs.{Graph}
+use Rattle.prov_fold.specs.Meanings.{IsLater, values_in}
 use Rattle.prov_fold.proofs.PlaceLemmas.{later_of, means_by, told_by}
 use Rattle.sym_rows.specs.declared.fault.WalkFault.{WalkFault}
-use Rattle.sym_rows.specs.declared.row.Cell.{Cell}
 use Rattle.sym_rows.specs.declared.row.SymRow.{SymRow}
-use Rattle.sym_rows.specs.Cells.{cell_in, IsRowOf, AreRowsOf}
-use Rattle.sym_rows.specs.Walks.{Walked, Walk, gives, Makes}
+use Rattle.sym_rows.specs.Cells.{cell_in, AreRowsOf}
+use Rattle.sym_rows.specs.Walks.{Walked, Makes}
 use Rattle.sym_values.specs.Left.{arguments_of, argument_on, left_by}
 use Rattle.sym_values.specs.Meanings.{IsRowFit, is_text}
-use Rattle.sym_groups.specs.Aggregates.{group_value, item_cells}
+use Rattle.sym_groups.specs.Aggregates.{group_value}
 use Rattle.sym_groups.specs.Groups.{values_at, beside, together, rows_of, joined, distinct_rows, first_cells, group_row, groups_in, group_rows, keys_of}
-use Rattle.sym_groups.specs.Meanings.{AreDistinctOf, AreDistinct, AreRowsWhere, some_there, group_there, items_then, IsGroupFit, AreGroupsOf, AreGroups}
-use Rattle.sym_groups.proofs.Grouping.{beside_is, has_key, all_filter}
+use Rattle.sym_groups.specs.Meanings.{AreDistinctOf, AreDistinct, AreRowsWhere, some_there, group_there, items_then, AreGroupsOf, AreGroups}
 use Rattle.sym_groups.proofs.Groupwise.{groups_made}
 use Rattle.sym_groups.proofs.OncePlain.{distinct_there}
 use Rattle.sym_groups.proofs.Fitting.{distinct_fit, groups_fit, IsOfKinds}
@@ -98,14 +93,17 @@ module _ (columns : List Column) (select : Select) (rows : List SymRow) (g after
   group_made r same h =
       let all_same : groups ≡ groups_in (length (keys_of select)) g rows = same ∙ ap (λ (l : List At). groups_in (length l) g rows) keys_is in
       let k : Makes (rows_of (group_row columns (keys_of select) select.items) groups g) AreRowsOf (AreRowsWhere (group_there (keys_of select) select.items) (λ group v. items_then v columns (keys_of select) select.items group) groups) g r after
-              = subst (λ (m : List Item). Makes (rows_of (group_row columns (keys_of select) m) groups g) AreRowsOf (AreRowsWhere (group_there (keys_of select) m) (λ group v. items_then v columns (keys_of select) m group) groups) g r after) items_is
-                (subst (λ (ks : List At). Makes (rows_of (group_row columns ks made_of) groups g) AreRowsOf (AreRowsWhere (group_there ks made_of) (λ group v. items_then v columns ks made_of group) groups) g r after) keys_is h) in
+      = subst (λ (m : List Item). Makes (rows_of (group_row columns (keys_of select) m) groups g) AreRowsOf (AreRowsWhere (group_there (keys_of select) m) (λ group v. items_then v columns (keys_of select) m group) groups) g r after) items_is
+      (subst (λ (ks : List At). Makes (rows_of (group_row columns ks made_of) groups g) AreRowsOf (AreRowsWhere (group_there ks made_of) (λ group v. items_then v columns ks made_of group) groups) g r after) keys_is h) in
       makes_whole (rows_of (group_row columns (keys_of select) select.items) groups g) (group_rows columns select rows g) AreRowsOf (AreGroupsOf columns select rows) (AreRowsWhere (group_there (keys_of select) select.items) (λ group v. items_then v columns (keys_of select) select.items group) groups) (AreGroups columns select rows) g after r
       (ap (λ (l : List (List SymRow)). rows_of (group_row columns (keys_of select) select.items) l g) all_same)
-      (λ made is good. record { of = good; fit = λ fits. groups_fit columns (keys_of select) select.items rows fits.items fits.marks groups g made after is
-          (subst (All (IsOfKinds columns (keys_of select) select.items rows)) (sym all_same) (λ k d lt column place all. groups_in_all (λ row. column.text ≡ is_text (group_value place (row ∷ []))) (length (keys_of select)) g rows all k d lt)) })
+      (λ made is good. record {
+        of = good;
+        fit = λ fits. groups_fit columns (keys_of select) select.items rows fits.items fits.marks groups g made after is
+            (subst (All (IsOfKinds columns (keys_of select) select.items rows)) (sym all_same) (λ k d lt column place all. groups_in_all (λ row. column.text ≡ is_text (group_value place (row ∷ []))) (length (keys_of select)) g rows all k d lt));
+      })
       (λ made l world later tells combos fits shown. tells ∙ ap (flat_map (λ group. cond (group_there (keys_of select) select.items group (values_in l world)) (items_then (values_in l world) columns (keys_of select) select.items group ∷ []) [])) all_same
-          ∙ groups_made g (values_in l world) columns (keys_of select) select.items rows combos (left_by select) (λ c. left_is select c fits.grouped) shown fits.cells fits.items fits.marks) k
+      ∙ groups_made g (values_in l world) columns (keys_of select) select.items rows combos (left_by select) (λ c. left_is select c fits.grouped) shown fits.cells fits.items fits.marks) k
 
 -- ---- the groups of the code
 

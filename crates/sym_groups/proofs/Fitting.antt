@@ -1,13 +1,12 @@
 -- the rows that are made fit the columns
-use Rattle.std.proofs.Common.{◌≡◌, ◌∙◌, sym, ap, ap₂, subst, refl, ℕ, suc, ◌+◌, ◌<◌, ◌==◌, ℤ, pos, Bool, true, false, cond, not, ◌&&◌, List, [], ◌∷◌, ◌++◌, length, length-append, get_or, take, map, All, Result, Ok, Err, append_assoc, arith}
-use Rattle.std.specs.Prelude.{Option, Some, None, unwrap_or}
+use Rattle.std.proofs.Common.{◌≡◌, ◌∙◌, sym, ap, subst, refl, ℕ, suc, ◌+◌, ◌<◌, ◌==◌, Bool, true, false, cond, not, List, [], ◌∷◌, ◌++◌, length, length-append, map, All, Ok, Err, append_assoc, arith}
+use Rattle.std.specs.Prelude.{Option, Some, None}
 use Rattle.std.specs.Cmp.{unsigned_Decides}
 use Rattle.std.specs.List.{list_any, AllZip}
 use Rattle.std.specs.Option.{option_to_list}
 use Rattle.std.proofs.lemmas.Bool.{and_parts}
 use Rattle.std.proofs.lemmas.List.Elements.{All-nil, All-cons, All-append}
 use Rattle.base_kit.proofs.Results.{same_Ok}
-use Rattle.base_kit.specs.declared.value.Value.{Value}
 use Rattle.tiql_query.specs.declared.expression.At.{At}
 use Rattle.tiql_query.specs.declared.expression.Expr.{Expr}
 use Rattle.tiql_query.specs.declared.relation.Column.{Column}
@@ -17,7 +16,6 @@ use Rattle.row_values.specs.Values.{number}
 use Rattle.view_select.specs.Selects.{is_extreme}
 use Rattle.prov_fold.specs.Graphs.{Graph}
 use Rattle.prov_fold.specs.Rules as rule
-use Rattle.sym_rows.specs.declared.fault.WalkFault.{WalkFault}
 use Rattle.sym_rows.specs.declared.row.Cell.{Cell}
 use Rattle.sym_rows.specs.declared.row.Cell.TheVariants as cells
 use Rattle.sym_rows.specs.declared.row.SymRow.{SymRow}
@@ -145,5 +143,6 @@ module _ (columns : List Column) (keys : List At) (made : List Item) (rows : Lis
     group_row_fit (row ∷ group) g p kinds e =
         let one = then_Ok (group_presence (is_sure keys made) (row ∷ group) g) (λ there g. row_with there (item_cells columns keys made (row ∷ group)) g) p e in
         row_fit (row ∷ group) one.0.0 one.0.1 p (λ column part marks lt. first_text row group column (key_place keys part) (kinds column (key_place keys part) marks.1 0 row (omega arith))) one.2
+
     pub groups_fit : (groups : List (List SymRow)) (g : Graph) (all : List SymRow) (after : Graph) → rows_of (group_row columns keys made) groups g ≡ Ok (all, after) → All IsOfKinds groups → All (IsRowFit columns) all
     groups_fit groups g all after is kinds = rows_of_all (group_row columns keys made) (IsRowFit columns) IsOfKinds group_row_fit groups g (all, after) kinds is

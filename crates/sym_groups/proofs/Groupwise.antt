@@ -1,12 +1,12 @@
 -- the rows of groups: what the items of a group are over the combinations of the group
-use Rattle.std.proofs.Common.{◌≡◌, ◌∙◌, sym, ap, ap₂, subst, refl, ℕ, zero, suc, ◌+◌, ◌<◌, ◌≤◌, ◌==◌, ℤ, pos, Bool, true, false, cond, not, ◌&&◌, ◌||◌, List, [], ◌∷◌, ◌++◌, length, length-append, get_or, take, drop, map, filter, flat_map, All, append_assoc, append-nil, arith, is_eq}
+use Rattle.std.proofs.Common.{◌≡◌, ◌∙◌, sym, ap, ap₂, subst, refl, ℕ, zero, suc, ◌+◌, ◌<◌, ◌≤◌, ◌==◌, ℤ, pos, Bool, true, false, cond, not, ◌&&◌, ◌||◌, List, [], ◌∷◌, ◌++◌, length, length-append, get_or, take, drop, map, filter, flat_map, All, append_assoc, arith, is_eq}
 use Rattle.std.specs.Prelude.{Option, Some, None, option_map, slice_get, unwrap_or}
 use Rattle.std.specs.Cmp.{unsigned_Decides}
 use Rattle.std.specs.List.{list_any, AllZip}
 use Rattle.std.specs.Option.{option_to_list}
 use Rattle.std.proofs.lemmas.Bool.{and_parts}
 use Rattle.std.proofs.lemmas.List.{map-append, length-map}
-use Rattle.std.proofs.lemmas.List.Elements.{All-nil, All-cons, filter_agree}
+use Rattle.std.proofs.lemmas.List.Elements.{filter_agree}
 use Rattle.std.proofs.lemmas.Option.{slice_get-map, unwrap_or-slice_get}
 use Rattle.std.proofs.lemmas.Simd.{map-map}
 use Rattle.std.proofs.Math.Seq.{take-append_seam, get_or-append_seam}
@@ -37,7 +37,7 @@ use Rattle.sym_values.specs.Meanings.{is_text}
 use Rattle.prov_fold.specs.Graphs.{Graph}
 use Rattle.sym_groups.specs.Aggregates.{pair_by, pair_of, pairs_of, place_of, place_by, key_place, fixed_in, group_value, argument_place}
 use Rattle.sym_groups.specs.Groups.{value_at, values_at, beside, together, is_sure, groups_in}
-use Rattle.sym_groups.specs.Meanings.{present, item_then, items_from, items_then, some_there, there_or, group_there, IsFixedCell, IsNumberCell, IsLeft, IsGroupItem, IsItemColumn}
+use Rattle.sym_groups.specs.Meanings.{present, item_then, items_from, items_then, some_there, group_there, IsFixedCell, IsNumberCell, IsLeft, IsGroupItem, IsItemColumn}
 use Rattle.sym_groups.proofs.Grouping.{beside_is, first_key, has_key, rows_together, there_of_key, all_filter, FirstHas, map_agree}
 
 -- ---- lists

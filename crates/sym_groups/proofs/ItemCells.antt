@@ -1,5 +1,5 @@
 -- the items of a group
-use Rattle.std.proofs.Common.{◌≡◌, ◌∙◌, sym, ap, ap₂, subst, refl, ℕ, zero, suc, ◌+◌, ◌≤◌, ◌<◌, ◌==◌, ℤ, pos, Bool, true, false, cond, ◌&&◌, List, [], ◌∷◌, ◌++◌, length, get_or, take, drop, map, filter, flat_map, All, Result, Ok, Err, arith, append_assoc, append-nil, length-take, zero-add}
+use Rattle.std.proofs.Common.{◌≡◌, ◌∙◌, sym, ap, ap₂, subst, refl, ℕ, zero, suc, ◌+◌, ◌≤◌, ◌<◌, ◌==◌, ℤ, pos, Bool, true, false, cond, ◌&&◌, List, [], ◌∷◌, ◌++◌, length, get_or, take, drop, map, flat_map, All, Result, Ok, Err, arith, append_assoc, append-nil, length-take, zero-add}
 use Rattle.std.specs.Prelude.{Option, Some, None, slice_get}
 use Rattle.std.specs.Borrow.{Bor}
 use Rattle.std.specs.Option.{option_to_list}
@@ -13,25 +13,20 @@ use Rattle.tiql_query.specs.declared.relation.Column.{Column}
 use Rattle.tiql_query.specs.declared.view.Item.{Item}
 use Rattle.tiql_query.specs.declared.view.Item.TheVariants as items
 use Rattle.prov_arena.specs.declared.part.Pair.{Pair}
-use Rattle.prov_fold.specs.Graphs.{Graph, Keeps, HasNumber, HasTruth, HasPair}
+use Rattle.prov_fold.specs.Graphs.{Graph, HasNumber, HasTruth, HasPair}
 use Rattle.prov_fold.specs.Meanings.{values_in}
-use Rattle.prov_fold.specs.Rules as rule
-use Rattle.row_values.specs.Values.{number, total}
-use Rattle.view_select.specs.Selects.{least, greatest}
-use Rattle.prov_fold.specs.Values.{holds}
 use Rattle.sym_rows.specs.declared.fault.WalkFault.{WalkFault}
 use Rattle.sym_rows.specs.declared.row.Cell.{Cell}
 use Rattle.sym_rows.specs.declared.row.Cell.TheVariants as cells
 use Rattle.sym_rows.specs.declared.row.SymRow.{SymRow}
 use Rattle.sym_rows.specs.Cells.{cell_in, IsRowOf, AreRowsOf, IsCellOf, IsCellThere}
 use Rattle.sym_rows.specs.Hypos.{is_unknown_in, settled, as_cell, IsCellThen}
-use Rattle.sym_rows.specs.Walks.{Walked, Walk, gives, ◌>>=◌, each, by_rule, Makes}
+use Rattle.sym_rows.specs.Walks.{Walk, ◌>>=◌, Makes}
 use Rattle.sym_rows.proofs.Makes.{makes_is, makes_so, makes_stop}
-use Rattle.sym_rows.proofs.Hypos.{as_ok, rows_kept}
+use Rattle.sym_rows.proofs.Hypos.{as_ok}
 use Rattle.sym_values.specs.Left.{arguments_of}
-use Rattle.sym_values.proofs.Numbering.{makes_as}
 use Rattle.sym_groups.specs.Aggregates.{least_of, sum_of, count_of, greatest_of, pair_by, pair_of, pairs_of, place_of, key_place, fixed_in, group_value, item_cell, argument_place}
-use Rattle.sym_groups.specs.Meanings.{present, IsSumOf, IsLeastOf, IsGreatestOf, IsCountOf, item_then, IsItemThen, items_from, items_then, AreItemsThen}
+use Rattle.sym_groups.specs.Meanings.{IsSumOf, IsLeastOf, IsGreatestOf, IsCountOf, item_then, IsItemThen, items_from, items_then, AreItemsThen}
 
 -- ---- pairs of presences and arguments
 

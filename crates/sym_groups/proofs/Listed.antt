@@ -11,21 +11,20 @@ use Rattle.std.proofs.lemmas.List.{take_more, take_all, map_push, drop_more, dro
 use Rattle.std.proofs.lemmas.List.Elements.{All-nil, All-cons, All-append}
 use Rattle.base_kit.specs.declared.value.Value.{Value}
 use Rattle.prov_fold.specs.Graphs.{Graph, Keeps, HasTruth}
-use Rattle.prov_fold.specs.Folds.{IsFold}
-use Rattle.prov_fold.specs.Meanings.{IsLater, Means, values_in}
+use Rattle.prov_fold.specs.Meanings.{Means, values_in}
 use Rattle.prov_fold.specs.Rules as rule
 use Rattle.prov_fold.specs.Values.{holds}
 use Rattle.prov_fold.proofs.StandLemmas.{keeps_same, keeps_on}
-use Rattle.prov_fold.proofs.PlaceLemmas.{later_of, means_by, told_by, value_zero, value_one}
+use Rattle.prov_fold.proofs.PlaceLemmas.{means_by, told_by, value_zero, value_one}
 use Rattle.sym_rows.specs.declared.fault.WalkFault.{WalkFault}
 use Rattle.sym_rows.specs.declared.row.Cell.{Cell}
 use Rattle.sym_rows.specs.declared.row.SymRow.{SymRow}
 use Rattle.sym_rows.specs.Cells.{cell_in, row_in, rows_in, is_there, IsRowOf, AreRowsOf, IsCellOf}
 use Rattle.sym_rows.specs.Walks.{Walked, Walk, gives, ◌>>=◌, by_rule, Makes}
-use Rattle.sym_rows.proofs.Makes.{makes_gives, makes_is, makes_so, makes_then, makes_stop, truth_kept, still}
+use Rattle.sym_rows.proofs.Makes.{makes_gives, makes_is, makes_then, makes_stop, truth_kept, still}
 use Rattle.sym_rows.proofs.Hypos.{rows_kept, rows_append}
 use Rattle.sym_values.proofs.Numbering.{makes_as}
-use Rattle.sym_groups.specs.Groups.{rows_of, presence_of, row_with, first_cells, joined, group_presence}
+use Rattle.sym_groups.specs.Groups.{rows_of, presence_of, row_with, first_cells, group_presence}
 use Rattle.sym_groups.specs.Meanings.{IsMaybeRowOf, IsRowWhere, IsPresenceWhere, there_or, some_there, AreRowsWhere}
 use Rattle.sym_groups.specs.Together.{lent_rows}
 

@@ -1,26 +1,20 @@
 -- DISTINCT: the rows that are made, by the values that are the same in every world
-use Rattle.std.proofs.Common.{◌≡◌, ◌∙◌, sym, ap, ap₂, subst, refl, ℕ, suc, ◌+◌, ◌<◌, ℤ, pos, ◌+ℤ◌, Bool, true, false, cond, List, [], ◌∷◌, ◌++◌, length, get_or, map, filter, flat_map, All, Result, Ok, Err, arith}
-use Rattle.std.specs.Prelude.{Option, Some, None}
-use Rattle.std.specs.List.{list_any}
-use Rattle.std.specs.Option.{option_to_list}
+use Rattle.std.proofs.Common.{◌≡◌, ◌∙◌, sym, ap, ap₂, refl, ℕ, suc, ℤ, pos, ◌+ℤ◌, true, false, cond, List, [], ◌∷◌, get_or, map, filter, flat_map, All, arith}
 use Rattle.std.proofs.lemmas.Int.{ints}
-use Rattle.std.proofs.lemmas.List.{append-nil}
-use Rattle.std.proofs.lemmas.List.Elements.{All-nil, All-cons, All-append}
 use Rattle.base_kit.specs.declared.value.Value.{Value}
 use Rattle.base_kit.specs.declared.value.Value.TheVariants.{Int}
-use Rattle.prov_arena.specs.Formulas.{Formula, LinNode}
-use Rattle.prov_fold.specs.Graphs.{Graph, node, Keeps}
+use Rattle.prov_arena.specs.Formulas.{Formula}
+use Rattle.prov_fold.specs.Graphs.{Graph}
 use Rattle.prov_fold.specs.Meanings.{IsLater, values_in}
 use Rattle.prov_fold.specs.Values.{value_of}
-use Rattle.prov_fold.proofs.PlaceLemmas.{value_kept, later_of}
+use Rattle.prov_fold.proofs.PlaceLemmas.{value_kept}
 use Rattle.view_select.specs.Selects.{distinct}
-use Rattle.sym_rows.specs.declared.fault.WalkFault.{WalkFault}
 use Rattle.sym_rows.specs.declared.row.Cell.{Cell}
 use Rattle.sym_rows.specs.declared.row.Cell.TheVariants as cells
 use Rattle.sym_rows.specs.declared.row.SymRow.{SymRow}
 use Rattle.sym_rows.specs.Cells.{cell_in, row_in, rows_in, is_there, AreRowsOf, IsCellOf}
 use Rattle.sym_groups.specs.Groups.{constant_by, value_at, values_at, beside, together, first_cells}
-use Rattle.sym_groups.specs.Meanings.{IsPlainCell, ArePlain, AreDistinct, AreRowsWhere, some_there}
+use Rattle.sym_groups.specs.Meanings.{IsPlainCell, ArePlain, some_there}
 use Rattle.sym_groups.proofs.Grouping.{beside_is, first_key, has_key, rows_together, all_filter, FirstHas, map_agree}
 
 -- ---- values that are the same in every world

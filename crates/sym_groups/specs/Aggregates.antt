@@ -1,5 +1,5 @@
 -- the aggregates of a group of possible rows: the numbers that are made of presences and arguments
-use Rattle.std.specs.Prelude.{◌≡◌, ℕ, ◌+◌, ◌==◌, ℤ, pos, negsuc, ◌+ℤ◌, ◌*ℤ◌, Bool, ◌&&◌, if◌then◌else◌, List, [], ◌∷◌, length, map, filter, flat_map, take, Option, Some, None, slice_get}
+use Rattle.std.specs.Prelude.{ℕ, ◌+◌, ◌==◌, ℤ, pos, negsuc, Bool, ◌&&◌, if◌then◌else◌, List, [], ◌∷◌, length, map, flat_map, take, Option, Some, None, slice_get}
 use Rattle.std.specs.Option.{option_to_list}
 use Rattle.base_kit.specs.declared.value.Value.{Value}
 use Rattle.base_kit.specs.declared.value.Value.TheVariants.{Int}

@@ -1,11 +1,10 @@
 -- what the rows that are made of groups mean
-use Rattle.std.specs.Prelude.{◌≡◌, ℕ, ◌+◌, ◌<◌, ℤ, pos, Bool, true, false, not, ◌||◌, if◌then◌else◌, List, [], ◌∷◌, ◌++◌, length, map, filter, flat_map, take, drop, All, Option, Some, None, slice_get}
+use Rattle.std.specs.Prelude.{◌≡◌, ℕ, ◌+◌, ◌<◌, ℤ, pos, Bool, true, false, if◌then◌else◌, List, [], ◌∷◌, length, map, filter, flat_map, take, drop, All, Option}
 use Rattle.std.specs.List.{list_any, AllZip}
 use Rattle.std.specs.Option.{option_to_list}
 use Rattle.base_kit.specs.declared.value.Value.{Value}
 use Rattle.base_kit.specs.declared.value.Value.TheVariants.{Int}
 use Rattle.tiql_query.specs.declared.expression.At.{At}
-use Rattle.tiql_query.specs.declared.expression.Expr.{Expr}
 use Rattle.tiql_query.specs.declared.relation.Column as columns
 use Rattle.tiql_query.specs.declared.view.Item.{Item}
 use Rattle.tiql_query.specs.declared.view.Item.TheVariants as items
@@ -14,12 +13,12 @@ use Rattle.row_values.specs.Values.{Combination, number, total}
 use Rattle.view_select.specs.Selects.{distinct, least, greatest, groups, is_grouped, row_of}
 use Rattle.prov_arena.specs.declared.part.Pair.{Pair}
 use Rattle.prov_arena.specs.Formulas.{LinNode}
-use Rattle.prov_fold.specs.Graphs.{Graph, node, HasPair}
+use Rattle.prov_fold.specs.Graphs.{Graph, node}
 use Rattle.prov_fold.specs.Values.{holds}
 use Rattle.sym_rows.specs.declared.row.Cell.{Cell}
 use Rattle.sym_rows.specs.declared.row.Cell.TheVariants as cells
 use Rattle.sym_rows.specs.declared.row.SymRow.{SymRow}
-use Rattle.sym_rows.specs.Cells.{Rows, cell_in, row_in, rows_in, is_there, IsRowOf, AreRowsOf}
+use Rattle.sym_rows.specs.Cells.{cell_in, rows_in, is_there, AreRowsOf}
 use Rattle.sym_rows.specs.Hypos.{is_unknown_in}
 use Rattle.sym_values.specs.Left.{arguments_of, left_by}
 use Rattle.sym_values.specs.Meanings.{IsRowFit, is_text}

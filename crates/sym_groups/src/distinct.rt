@@ -67,7 +67,11 @@ pub(crate) fn add(made: &mut List<SymRow>, row: Option<SymRow>) -> Result<(), Al
 
 /// Equal rows as one; none where none of them can be there.
 #[tactic(auto, unfolding(crate::specs::Groups::joined))]
-fn joined(alloc: Global, fold: &mut Fold<'_>, group: &[&SymRow]) -> Result<Option<SymRow>, WalkFault>
+fn joined(
+    alloc: Global,
+    fold: &mut Fold<'_>,
+    group: &[&SymRow],
+) -> Result<Option<SymRow>, WalkFault>
     requires { AreRowsOf fold.old (map (λ row. row.now) group.now) }
     ensures { Makes (spec.joined (map (λ row. row.now) group.now) fold.old) meaning.IsMaybeRowOf (meaning.IsRowWhere (meaning.some_there (map (λ row. row.now) group.now)) (λ v. map (cell_in v) (spec.first_cells (map (λ row. row.now) group.now)))) fold.old result fold.new }
 {
@@ -80,7 +84,11 @@ fn joined(alloc: Global, fold: &mut Fold<'_>, group: &[&SymRow]) -> Result<Optio
 }
 
 /// The truth that one of some rows is there.
-pub(crate) fn presence_of(alloc: Global, fold: &mut Fold<'_>, group: &[&SymRow]) -> Result<u32, WalkFault>
+pub(crate) fn presence_of(
+    alloc: Global,
+    fold: &mut Fold<'_>,
+    group: &[&SymRow],
+) -> Result<u32, WalkFault>
     requires { AreRowsOf fold.old (map (λ row. row.now) group.now) }
     ensures { Makes (spec.presence_of (map (λ row. row.now) group.now) fold.old) HasTruth (meaning.IsPresenceWhere (meaning.some_there (map (λ row. row.now) group.now))) fold.old result fold.new }
 {

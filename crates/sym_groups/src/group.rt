@@ -38,7 +38,14 @@ pub fn group_rows(
     let keys = keys_of(select);
     let items = select.items.as_slice();
     let groups = groups_in(alloc, fold, keys.len(), rows.as_slice())?;
-    rows_of_groups(alloc, fold, columns.as_slice(), keys, items, groups.as_slice())
+    rows_of_groups(
+        alloc,
+        fold,
+        columns.as_slice(),
+        keys,
+        items,
+        groups.as_slice(),
+    )
 }
 
 /// The columns of GROUP BY.

@@ -11,7 +11,11 @@ use std::alloc::Global;
 use sym_rows::{Cell, SymRow};
 
 /// The values of each row.
-pub(crate) fn all_values(alloc: Global, fold: &Fold<'_>, rows: &[SymRow]) -> Result<Vec<Row>, Memory>
+pub(crate) fn all_values(
+    alloc: Global,
+    fold: &Fold<'_>,
+    rows: &[SymRow],
+) -> Result<Vec<Row>, Memory>
     requires { AreRowsOf fold.now rows.now }
     ensures { IfOk result (λ made. made.items ≡ map (λ row. spec.values_at fold.now row.cells) rows.now) }
 {

@@ -1,4 +1,4 @@
-use Rattle.std.proofs.Common.{map, arith, rules, refl}
+use Rattle.std.proofs.Common.{map, rules, refl}
 use Rattle.sym_rows.specs.Cells.{cell_in}
 use Rattle.sym_rows.specs.Walks.{gives}
 use Rattle.sym_groups.specs.Groups.{joined, presence_of, first_cells}

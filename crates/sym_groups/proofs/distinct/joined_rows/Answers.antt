@@ -1,4 +1,4 @@
-use Rattle.std.proofs.Common.{map, arith, rules, subst, sym, refl, ap}
+use Rattle.std.proofs.Common.{map, arith, rules, ap}
 use Rattle.sym_rows.specs.Cells.{cell_in, AreRowsOf}
 use Rattle.sym_rows.proofs.Makes.{makes_memory}
 use Rattle.sym_groups.specs.Groups.{joined, first_cells, rows_of}

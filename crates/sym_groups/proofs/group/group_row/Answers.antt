@@ -1,4 +1,4 @@
-use Rattle.std.proofs.Common.{map, arith, rules, refl}
+use Rattle.std.proofs.Common.{map, rules, refl}
 use Rattle.sym_rows.proofs.Hypos.{rows_kept}
 use Rattle.sym_groups.specs.Aggregates.{item_cells}
 use Rattle.sym_groups.specs.Groups.{is_sure, group_presence, group_row}

@@ -5,7 +5,7 @@ use Rattle.sym_groups.specs.Groups.{values_at}
 use Rattle.sym_groups.specs.Together.{lent_rows}
 use Rattle.sym_groups.proofs.Finals.{groups_none, groups_some, keys_long}
 use Rattle.sym_groups.proofs.group.groups_in.Goals as goal
-use Rattle.std.proofs.Common.{◌∙◌, refl, rules}
+use Rattle.std.proofs.Common.{◌∙◌, refl}
 
 pub returns-then-count-eq0 : goal.returns-then-count-eq0
 returns-then-count-eq0 c = subst (λ (l : List (List SymRow)). IfOk c.whole.result (λ made. map lent_rows made.items ≡ l)) (groups_none c.args.count c.args.fold.now c.args.rows.now c.if-count-eq0.true) c.whole.ensures

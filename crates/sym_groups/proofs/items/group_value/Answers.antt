@@ -1,4 +1,4 @@
-use Rattle.std.proofs.Common.{◌≡◌, subst, ◌∙◌, ap, rules, refl}
+use Rattle.std.proofs.Common.{◌≡◌, subst, ◌∙◌, ap, refl}
 use Rattle.std.specs.Prelude.{IfOk}
 use Rattle.base_kit.specs.declared.value.Value.{Value}
 use Rattle.sym_groups.specs.Aggregates.{fixed_in}

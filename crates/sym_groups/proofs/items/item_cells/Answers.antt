@@ -1,4 +1,4 @@
-use Rattle.std.proofs.Common.{◌≡◌, ◌+◌, All, map, refl, arith, rules, length}
+use Rattle.std.proofs.Common.{◌+◌, All, map, refl, arith, rules}
 use Rattle.sym_rows.specs.Cells.{IsCellOf}
 use Rattle.sym_rows.specs.Hypos.{is_unknown_in}
 use Rattle.sym_rows.proofs.Each.{going_init, going_step, going_err, going_end}
@@ -11,9 +11,10 @@ use Rattle.sym_groups.proofs.items.item_cells.Goals as goal
 
 pub loop-at-init : goal.loop-at-init
 loop-at-init c =
-    let group = map (λ row. row.now) c.args.group.now in
-    (going_init (λ i item. item_cell (is_unknown_in c.args.columns.now i) c.args.keys.now (argument_place c.args.keys.now c.args.items.now i) group item) c.args.items.now IsCellOf (ItemsSo c.args.columns.now c.args.keys.now c.args.items.now group) c.args.fold.now c.new-made.result c.new-made.ensures (λ h world later. refl),
-    place_none c.args.keys.now c.args.items.now c.first_place-place.result c.first_place-place.ensures.value)
+    let group = map (λ row. row.now) c.args.group.now in (
+      going_init (λ i item. item_cell (is_unknown_in c.args.columns.now i) c.args.keys.now (argument_place c.args.keys.now c.args.items.now i) group item) c.args.items.now IsCellOf (ItemsSo c.args.columns.now c.args.keys.now c.args.items.now group) c.args.fold.now c.new-made.result c.new-made.ensures (λ h world later. refl),
+      place_none c.args.keys.now c.args.items.now c.first_place-place.result c.first_place-place.ensures.value,
+    )
 
 pub item_cell-requires : goal.item_cell-requires
 item_cell-requires c = rows_kept c.args.fold.now c.loop-at.fold (map (λ row. row.now) c.args.group.now) c.loop-at.invariant.0.kept c.requires
@@ -28,13 +29,14 @@ overflow_add-place c =
 
 pub loop-at-preserved : goal.loop-at-preserved
 loop-at-preserved c =
-    let group = map (λ row. row.now) c.args.group.now in
-    (going_step (λ i item. item_cell (is_unknown_in c.args.columns.now i) c.args.keys.now (argument_place c.args.keys.now c.args.items.now i) group item) c.args.items.now IsCellOf (ItemsSo c.args.columns.now c.args.keys.now c.args.items.now group) c.args.fold.now c.loop-at.at c.index-items-at.result c.in_ok-item_cell.field-0 c.loop-at.made c.push.new.self c.loop-at.fold c.item_cell.new.fold
-    (IsItemThen (is_unknown_in c.args.columns.now c.loop-at.at) c.args.keys.now (argument_place c.args.keys.now c.args.items.now c.loop-at.at) group c.index-items-at.result) c.loop-at-test.true c.index-items-at.is c.in_ok-push.ensures.ok
-    (λ cell kept is. cell_kept c.loop-at.fold c.item_cell.new.fold cell kept is)
-    (λ h world later so one. items_step c.args.columns.now c.args.keys.now c.args.items.now group c.loop-at.at c.index-items-at.result c.loop-at.made c.in_ok-item_cell.field-0 world (values_in h world) c.loop-at-test.true c.index-items-at.is so one)
-    (cell_same c.is_unknown_in-unknown.result _ c.loop-at.place _ c.args.keys.now group c.index-items-at.result c.loop-at.fold c.item_cell.new.fold _ c.is_unknown_in-unknown.ensures c.loop-at.invariant.1 c.in_ok-item_cell.ensures) c.loop-at.invariant.0,
-    place_step c.args.keys.now c.args.items.now c.loop-at.at c.index-items-at.result c.loop-at.place c.argument_count.result c.loop-at-test.true c.index-items-at.is c.loop-at.invariant.1 c.argument_count.ensures.value)
+    let group = map (λ row. row.now) c.args.group.now in (
+      going_step (λ i item. item_cell (is_unknown_in c.args.columns.now i) c.args.keys.now (argument_place c.args.keys.now c.args.items.now i) group item) c.args.items.now IsCellOf (ItemsSo c.args.columns.now c.args.keys.now c.args.items.now group) c.args.fold.now c.loop-at.at c.index-items-at.result c.in_ok-item_cell.field-0 c.loop-at.made c.push.new.self c.loop-at.fold c.item_cell.new.fold
+          (IsItemThen (is_unknown_in c.args.columns.now c.loop-at.at) c.args.keys.now (argument_place c.args.keys.now c.args.items.now c.loop-at.at) group c.index-items-at.result) c.loop-at-test.true c.index-items-at.is c.in_ok-push.ensures.ok
+          (λ cell kept is. cell_kept c.loop-at.fold c.item_cell.new.fold cell kept is)
+          (λ h world later so one. items_step c.args.columns.now c.args.keys.now c.args.items.now group c.loop-at.at c.index-items-at.result c.loop-at.made c.in_ok-item_cell.field-0 world (values_in h world) c.loop-at-test.true c.index-items-at.is so one)
+          (cell_same c.is_unknown_in-unknown.result _ c.loop-at.place _ c.args.keys.now group c.index-items-at.result c.loop-at.fold c.item_cell.new.fold _ c.is_unknown_in-unknown.ensures c.loop-at.invariant.1 c.in_ok-item_cell.ensures) c.loop-at.invariant.0,
+      place_step c.args.keys.now c.args.items.now c.loop-at.at c.index-items-at.result c.loop-at.place c.argument_count.result c.loop-at-test.true c.index-items-at.is c.loop-at.invariant.1 c.argument_count.ensures.value,
+    )
 
 pub returns-in_err-item_cell : goal.returns-in_err-item_cell
 unfolding item_cells

@@ -1,4 +1,4 @@
-use Rattle.std.proofs.Common.{arith, rules}
+use Rattle.std.proofs.Common.{arith}
 use Rattle.sym_groups.proofs.ItemCells.{pairs_none, pairs_step, pairs_end}
 use Rattle.sym_groups.proofs.items.pairs_of.Goals as goal
 

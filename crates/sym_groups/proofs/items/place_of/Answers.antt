@@ -1,4 +1,4 @@
-use Rattle.std.proofs.Common.{arith, sym, ◌∙◌, refl}
+use Rattle.std.proofs.Common.{sym, ◌∙◌, refl}
 use Rattle.sym_groups.proofs.ItemCells.{place_here, place_on, place_end}
 use Rattle.sym_groups.proofs.items.place_of.Goals as goal
 

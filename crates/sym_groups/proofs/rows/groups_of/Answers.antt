@@ -1,4 +1,4 @@
-use Rattle.std.proofs.Common.{◌∙◌, ◌+◌, ap, sym, arith, rules, refl, take, unwrap_or, get_or}
+use Rattle.std.proofs.Common.{◌∙◌, ◌+◌, ap, sym, arith, rules, refl, unwrap_or, get_or}
 use Rattle.std.specs.BTreeMap.Entry.{map_with_value}
 use Rattle.sym_groups.proofs.Gathering.{together-init, together-step, same-groups, together-end}
 use Rattle.sym_groups.proofs.rows.groups_of.Goals as goal

@@ -1,4 +1,3 @@
-use Rattle.std.proofs.Common.{◌≡◌}
 use Rattle.sym_groups.proofs.Gathering.{AreTogether}
 use Rattle.sym_groups.proofs.rows.groups_of.Given as goal
 
