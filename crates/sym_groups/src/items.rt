@@ -45,6 +45,7 @@ fn first_place(keys: &[At], items: &[Item]) -> usize
     ensures value { result ≡ length keys.now }
     ensures room { result + length items.now < 2 ^ 64 }
 {
+    // That a list is not too long for its places is known where its length is asked.
     let _count = items.len();
     keys.len()
 }

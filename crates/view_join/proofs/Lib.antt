@@ -1,1 +1,16 @@
 pub mod Levels
+pub mod Throughs
+pub mod Nested
+pub mod Goings
+pub mod Matched
+pub mod Settled
+pub mod There
+pub mod Cellwise
+pub mod Ones
+pub mod Choosing
+pub mod Steps
+pub mod Constants
+pub mod Kinded
+pub mod Entire
+pub mod Picked
+pub mod Comings
