@@ -1,0 +1,3 @@
+pub mod Meant
+pub mod Relations
+pub mod Walks
