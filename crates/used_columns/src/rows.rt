@@ -14,8 +14,8 @@ use prov_fold::{Fold, Part, Term};
 use std::alloc::Global;
 
 /// The nodes whose columns stand in the row of a form, where like columns are joined: those whose factors do not cancel. A Not
-/// stands for its truth, and a number for its terms. `totals` has a 0 for each node, and has them again behind the call. All factors together
-/// are below 2^63 in size. `Err` is want of memory (docs/ENCODING.md, "Which nodes are used").
+/// stands for its truth, and a number for its terms. `totals` has a 0 for each node, and so it has behind the call, if that gave the seeds.
+/// All factors together are below 2^63 in size. `Err` is want of memory (docs/ENCODING.md, "Which nodes are used").
 pub fn seeds(
     alloc: Global,
     fold: &Fold<'_>,
