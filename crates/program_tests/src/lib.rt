@@ -4,4 +4,6 @@
 #[cfg(test)]
 mod cells;
 #[cfg(test)]
+mod columns;
+#[cfg(test)]
 mod text;
