@@ -91,15 +91,16 @@ pub record ItemsFit (scope : Scope) (distinct : Bool) (made : Items) : Type 0 wh
   pub kinds : map (item_kind (cols scope)) made.items ≡ map told made.columns
   pub fixed : distinct ≡ true → All (λ it. is_unknown it ≡ false) (map told made.columns)
 
--- an item that breaks no rule is itself, and is fixed under DISTINCT
-ruled_came : (rules : Rules) (group : List At) (before : List ItemColumn) (item : TreeItem) (made ruled : TypedItem) → item_ruled rules group before item made ≡ Ok ruled → (made ≡ ruled) × (rules.distinct ≡ true → made.kind.unknown ≡ false)
+-- an item that breaks no rule is itself, is fixed under DISTINCT, and fits the group of a grouped select
+pub ruled_came : (rules : Rules) (group : List At) (before : List ItemColumn) (item : TreeItem) (made ruled : TypedItem) → item_ruled rules group before item made ≡ Ok ruled
+    → (made ≡ ruled) × (rules.distinct ≡ true → made.kind.unknown ≡ false) × ((rules.grouped && not (fits_group group made.item)) ≡ false)
 ruled_came rules group before item made ruled e =
     let third : Result TypedItem SoundFault = if rules.grouped && not (fits_group group made.item) then Err (fault.NotGrouped item.place) else Ok made in
     let second : Result TypedItem SoundFault = if rules.distinct && made.kind.unknown then Err (fault.NotFixed item.place) else third in
     let named = kept (rules.named && has_name item.name.name before) (fault.SameName item.name.place) second ruled e in
     let fixed = kept (rules.distinct && made.kind.unknown) (fault.NotFixed item.place) third ruled named.1 in
     let fits = kept (rules.grouped && not (fits_group group made.item)) (fault.NotGrouped item.place) (Ok made) ruled fixed.1 in
-    (same_Ok made ruled fits.1, λ distinct. sym (ap (λ d. d && made.kind.unknown) distinct) ∙ fixed.0)
+    (same_Ok made ruled fits.1, λ distinct. sym (ap (λ d. d && made.kind.unknown) distinct) ∙ fixed.0, fits.0)
 
 item_step : (rules : Rules) (scope : Scope) (group : List At) (before next : Items) (item : TreeItem) → small_value item.value ≡ true → with_item rules scope group before item ≡ Ok next → ItemsFit scope rules.distinct before → ItemsFit scope rules.distinct next
 unfolding with_item

@@ -13,3 +13,5 @@ pub mod FitSelects
 pub mod FitViews
 pub mod SmallText
 pub mod FitQuery
+pub mod GroupItems
+pub mod GroupQuery

@@ -9,3 +9,4 @@ pub mod Selects
 pub mod Views
 pub mod Sound
 pub mod Small
+pub mod Grouped

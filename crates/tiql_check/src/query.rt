@@ -4,6 +4,7 @@ ghost use Rattle.tiql_query.specs.WellFormed.{IsWellFormed};
 ghost use Rattle.tiql_tree.specs.Unplaced.{HasText};
 ghost use Rattle.tiql_check.specs.Sound as spec;
 ghost use Rattle.tiql_check.specs.Sound.{Sound, FirstBroken};
+ghost use Rattle.tiql_check.specs.Grouped.{AreGrouped};
 ghost use Rattle.tiql_check.specs.Known.{nothing};
 ghost use Rattle.tiql_check.specs.Turns.{ChecksTo, ChecksInto, in_turn};
 
@@ -154,6 +155,7 @@ pub fn check(alloc: Global, tree: &Tree) -> Result<Query, SoundFault>
     ensures sound { IfOk result (λ query. Sound tree.now query) }
     ensures broken { IfErr result (λ fault. fault ≢ SoundFault.Memory → FirstBroken tree.now fault) }
     ensures well_formed { HasText tree.now → IfOk result (λ query. IsWellFormed query) }
+    ensures grouped { IfOk result (λ query. AreGrouped query) }
 {
     check_tree(alloc, tree)
 }
