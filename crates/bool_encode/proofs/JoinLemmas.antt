@@ -1,11 +1,11 @@
 -- The terms of a row: what sorting and joining keep, and that the row is that of its form.
-use Rattle.std.proofs.Common.{◌≡◌, ◌≢◌, ◌∙◌, sym, ap, subst, refl, ℕ, zero, suc, ◌+◌, ◌<◌, ◌≤◌, ◌==◌, ℤ, pos, ◌+ℤ◌, ◌*ℤ◌, neg_ℤ, Bool, true, false, cond, not, List, [], ◌∷◌, length, get_or, slice_index, map, filter, All, arith}
+use Rattle.std.proofs.Common.{◌≡◌, ◌≢◌, ◌∙◌, sym, ap, subst, refl, ℕ, zero, suc, ◌+◌, ◌<◌, ◌≤◌, ◌==◌, ℤ, pos, ◌+ℤ◌, ◌*ℤ◌, neg_ℤ, Bool, true, false, cond, if◌then◌else◌, not, List, [], ◌∷◌, length, get_or, slice_index, map, filter, All, arith, inl, inr}
 use Rattle.std.specs.List.Sorted.{IsPermutation, IsNonDecreasingBy, IsStrictlyIncreasing}
 use Rattle.std.specs.Ordering.{int_eq}
 use Rattle.std.proofs.lemmas.Int.{ints}
+use Rattle.std.proofs.lemmas.Bool.{cases_lt}
 use Rattle.std.proofs.lemmas.Bool.Decides.{Decides-eqb, Decides-int_eq}
-use Rattle.std.proofs.lemmas.List.Sorted.{All-permutation}
-use Rattle.std.proofs.lemmas.List.Elements.{All-append, All-filter}
+use Rattle.std.proofs.lemmas.List.Elements.{All-append}
 use Rattle.ip_rows.specs.declared.rows.Coef.{Coef}
 use Rattle.ip_rows.specs.Rows.{AreTerms}
 use Rattle.ip_rows.specs.Programs.{number_at, sum_at}
@@ -19,10 +19,10 @@ use Rattle.bool_encode.specs.declared.scrap.Scrap.{Scrap}
 use Rattle.bool_encode.specs.declared.stand.Stand.{Stand}
 use Rattle.bool_encode.specs.Forms.{form, form_at}
 use Rattle.bool_encode.specs.Columns.{coef, columns_of, constant_of, reading, IsOnMap}
-use Rattle.bool_encode.specs.Rows.{IsRowOf}
+use Rattle.bool_encode.specs.Rows.{IsRowOf, IsJoinedOn, column_factor, factor_there}
 use Rattle.bool_encode.specs.Scraps.{told, scaled, spread, together, joins, joins_from, kept}
 use Rattle.bool_encode.proofs.ColumnLemmas.{constant_is}
-use Rattle.bool_encode.proofs.Each.{All_none, All_of_map, All_to_map}
+use Rattle.bool_encode.proofs.Each.{All_none, All_change, All_to_map}
 
 zero_plus : (a : ℤ) → pos 0 +ℤ a ≡ a
 zero_plus a = omega (arith, ints)
@@ -61,22 +61,6 @@ joins_from_added g sub a (b ∷ more) = joins_added_step g sub a b more (a.colum
 pub joins_added : (g : Scrap → ℕ) → ((a b : Scrap) → a.column ≡ b.column → g (together a b) ≤ g a + g b) → (ss : List Scrap) → added_by g (joins ss) ≤ added_by g ss
 joins_added g sub [] = omega arith
 joins_added g sub (a ∷ more) = joins_from_added g sub a more
-
-joins_all_step : (P : ℕ → Type 0) (a b : Scrap) (more : List Scrap) (t : Bool) → P a.column
-    → All (λ (s : Scrap). P s.column) (joins_from (together a b) more) → All (λ (s : Scrap). P s.column) (joins_from b more)
-    → All (λ (s : Scrap). P s.column) (cond t (joins_from (together a b) more) (a ∷ joins_from b more))
-joins_all_step P a b more true p both one = both
-joins_all_step P a b more false p both one = All_cons (λ (s : Scrap). P s.column) a (joins_from b more) p one
-
-joins_from_all : (P : ℕ → Type 0) (a : Scrap) (more : List Scrap) → P a.column → All (λ (s : Scrap). P s.column) more → All (λ (s : Scrap). P s.column) (joins_from a more)
-joins_from_all P a [] p h = All_cons (λ (s : Scrap). P s.column) a [] p h
-joins_from_all P a (b ∷ more) p h =
-    let rest = All_tail (λ (s : Scrap). P s.column) b more h in
-    joins_all_step P a b more (a.column == b.column) p (joins_from_all P (together a b) more p rest) (joins_from_all P b more (All_head (λ (s : Scrap). P s.column) b more h) rest)
-
-pub joins_all : (P : ℕ → Type 0) (ss : List Scrap) → All (λ (s : Scrap). P s.column) ss → All (λ (s : Scrap). P s.column) (joins ss)
-joins_all P [] h = h
-joins_all P (a ∷ more) h = joins_from_all P a more (All_head (λ (s : Scrap). P s.column) a more h) (All_tail (λ (s : Scrap). P s.column) a more h)
 
 -- columns that do not fall, and columns that rise, from n on
 abbrev pub Rises : ℕ → List Scrap → Type 0
@@ -212,6 +196,85 @@ module _ (point : List ℤ) where
       total_append worth (scaled p.factor (columns_of g stands p.key).terms) (spread g stands pieces)
       ∙ (λ i. scaled_worth p.factor (columns_of g stands p.key).terms i +ℤ spread_worth g stands pieces i)
 
+-- ---- the factors at one column
+
+there_if : (c : ℕ) (t : Coef) (b : Bool) → (t.column == c) ≡ b → b ≡ true → factor_there c t ≡ t.factor
+there_if c t b e is = ap (λ x. if x then t.factor else pos 0) (e ∙ is)
+
+there_here : (c : ℕ) (t : Coef) → t.column ≡ c → factor_there c t ≡ t.factor
+there_here c t is = there_if c t (t.column == c) refl ((Decides-eqb t.column c).1 is)
+
+there_by : (c : ℕ) (t : Coef) (b : Bool) → (t.column == c) ≡ b → t.column ≢ c → factor_there c t ≡ pos 0
+there_by c t true e other = absurd (other ((Decides-eqb t.column c).0 e))
+there_by c t false e other = ap (λ x. if x then t.factor else pos 0) e
+
+there_other : (c : ℕ) (t : Coef) → t.column ≢ c → factor_there c t ≡ pos 0
+there_other c t other = there_by c t (t.column == c) refl other
+
+if_sum : (b : Bool) (m n : ℤ) → (if b then m +ℤ n else pos 0) ≡ (if b then m else pos 0) +ℤ (if b then n else pos 0)
+if_sum true m n = refl
+if_sum false m n = refl
+
+if_none : (b : Bool) → (if b then pos 0 else pos 0) ≡ pos 0
+if_none true = refl
+if_none false = refl
+
+module _ (c : ℕ) where
+  there_add : (a b : Scrap) → a.column ≡ b.column → factor_there c (told (together a b)) ≡ factor_there c (told a) +ℤ factor_there c (told b)
+  there_add a b same = if_sum (a.column == c) a.factor b.factor ∙ ap (λ n. factor_there c (told a) +ℤ (if n == c then b.factor else pos 0)) same
+
+  there_told : (ss : List Scrap) → total_by (factor_there c) (map told ss) ≡ total_by (λ (s : Scrap). factor_there c (told s)) ss
+  there_told [] = refl
+  there_told (s ∷ ss) = ap (λ (z : ℤ). factor_there c (told s) +ℤ z) (there_told ss)
+
+  kept_there : (scraps sorted : List Scrap) → IsPermutation scraps sorted → column_factor (kept (joins sorted)) c ≡ column_factor (map told scraps) c
+  kept_there scraps sorted perm =
+      drop_zeros (factor_there c) (λ n. if_none (n == c)) (map told (joins sorted)) ∙ there_told (joins sorted)
+      ∙ joins_total (λ (s : Scrap). factor_there c (told s)) there_add sorted ∙ total_sorted (λ (s : Scrap). factor_there c (told s)) scraps sorted perm ∙ sym (there_told scraps)
+
+  -- terms elsewhere have no factor there
+  none_there : (terms : List Coef) → All (λ (t : Coef). t.column ≢ c) terms → column_factor terms c ≡ pos 0
+  none_there [] h = refl
+  none_there (t ∷ terms) h =
+      (λ i. there_other c t (All_head (λ (t : Coef). t.column ≢ c) t terms h) i +ℤ none_there terms (All_tail (λ (t : Coef). t.column ≢ c) t terms h) i)
+
+from_other : (c : ℕ) (ts : List Coef) → From (suc c) ts → All (λ (t : Coef). t.column ≢ c) ts
+from_other c [] h = All_none (λ (t : Coef). t.column ≢ c)
+from_other c (t ∷ ts) h =
+    let above = h.0 in
+    All_cons (λ (t : Coef). t.column ≢ c) t ts (λ is. absurd (omega (arith, above, is))) (from_other c ts (from_down (suc c) (suc t.column) ts (omega (arith, above)) h.1))
+
+first_there : (t : Coef) (ts : List Coef) → From (suc t.column) ts → column_factor (t ∷ ts) t.column ≡ t.factor
+first_there t ts h =
+    let here = there_here t.column t refl in
+    let rest = none_there t.column ts (from_other t.column ts h) in
+    omega (arith, ints, here, rest)
+
+-- rising terms without the factor 0, which come to nothing at each column from n on, stand before n
+none_above : (n m : ℕ) (ts : List Coef) → From m ts → All (λ (t : Coef). t.factor ≢ pos 0) ts → ((c : ℕ) → n ≤ c → column_factor ts c ≡ pos 0) → All (λ (t : Coef). t.column < n) ts
+none_above n m [] from some none = All_none (λ (t : Coef). t.column < n)
+none_above n m (t ∷ ts) from some none = elim (cases_lt t.column n) as (λ _. All (λ (t : Coef). t.column < n) (t ∷ ts)) [
+  | inl less ↦ All_cons (λ (t : Coef). t.column < n) t ts less
+      (none_above n (suc t.column) ts from.1 (All_tail (λ (t : Coef). t.factor ≢ pos 0) t ts some)
+      (λ c le. let gone = there_other c t (λ is. absurd (omega (arith, less, le, is))) in
+      sym (zero_plus (column_factor ts c)) ∙ ap (λ (z : ℤ). z +ℤ column_factor ts c) (sym gone) ∙ none c le))
+  | inr le ↦ absurd (All_head (λ (t : Coef). t.factor ≢ pos 0) t ts some (sym (first_there t ts from.1) ∙ none t.column le))
+]
+
+-- each key is on the map, so all terms are
+spread_below : (g : Graph) (stands : List Stand) (ps : List Piece) → All (λ (p : Piece). IsOnMap g stands p.key) ps → All (λ (t : Coef). t.column < length stands) (spread g stands ps)
+unfolding IsOnMap
+spread_below g stands [] h = All_none (λ (t : Coef). t.column < length stands)
+spread_below g stands (p ∷ ps) h =
+    All-append (λ (t : Coef). t.column < length stands) (scaled p.factor (columns_of g stands p.key).terms) (spread g stands ps)
+    (All_to_map (λ (t : Coef). t.column < length stands) (λ (t : Coef). coef (p.factor *ℤ t.factor) t.column) (columns_of g stands p.key).terms (All_head (λ (p : Piece). IsOnMap g stands p.key) p ps h))
+    (spread_below g stands ps (All_tail (λ (p : Piece). IsOnMap g stands p.key) p ps h))
+
+pub on_map_joined : (g : Graph) (stands : List Stand) (pieces : List Piece) → All (λ (p : Piece). IsOnMap g stands p.key) pieces → IsJoinedOn g stands pieces
+unfolding IsJoinedOn
+on_map_joined g stands pieces named = λ c le. none_there c (spread g stands pieces)
+    (All_change (λ (t : Coef). t.column < length stands) (λ (t : Coef). t.column ≢ c) (spread g stands pieces) (λ t less is. absurd (omega (arith, less, le, is))) (spread_below g stands pieces named))
+
 -- ---- the constants
 
 split_step : (fkd fs kd s f r : ℤ) → f *ℤ (kd +ℤ s) ≡ f *ℤ kd +ℤ f *ℤ s → fkd ≡ f *ℤ kd → fs ≡ f *ℤ s → f *ℤ (kd +ℤ s) +ℤ r ≡ (fkd +ℤ fs) +ℤ r
@@ -221,7 +284,7 @@ crossed : (a b c d : ℤ) → (a +ℤ b) +ℤ (c +ℤ d) ≡ (a +ℤ c) +ℤ (b 
 crossed a b c d = omega (arith, ints)
 
 -- factors times constants over d and terms, parted
-parted : {A : Type 0} (d : ℤ) (f k s : A → ℤ) (xs : List A) → total_by (λ x. f x *ℤ (k x *ℤ d +ℤ s x)) xs ≡ total_by (λ x. f x *ℤ k x) xs *ℤ d +ℤ total_by (λ x. f x *ℤ s x) xs
+pub parted : {A : Type 0} (d : ℤ) (f k s : A → ℤ) (xs : List A) → total_by (λ x. f x *ℤ (k x *ℤ d +ℤ s x)) xs ≡ total_by (λ x. f x *ℤ k x) xs *ℤ d +ℤ total_by (λ x. f x *ℤ s x) xs
 parted d f k s [] = omega (arith, ints)
 parted d f k s (x ∷ xs) =
     (λ i. (*ℤ-+ℤ (f x) (k x *ℤ d) (s x) ∙ ap (λ (z : ℤ). z +ℤ f x *ℤ s x) (sym (*ℤ_assoc (f x) (k x) d))) i +ℤ parted d f k s xs i)
@@ -252,28 +315,18 @@ module _ (g : Graph) (stands : List Stand) (c : ℤ) (pieces : List Piece) (scra
       let asks : neg_ℤ (c +ℤ constants) *ℤ pos d ≡ neg_ℤ (c *ℤ pos d +ℤ constants *ℤ pos d) = neg-*ℤ (c +ℤ constants) (pos d) ∙ ap neg_ℤ (+ℤ-*ℤ c constants (pos d)) in
       sum ∙ balance _ (c *ℤ pos d) (constants *ℤ pos d) (neg_ℤ (c +ℤ constants) *ℤ pos d) (form_at d (reading g stands d point) (form c pieces)) (ap (λ (z : ℤ). c *ℤ pos d +ℤ z) apart) asks
 
-  abbrev Below : Coef → Type 0
-  Below t = t.column < length stands
-
-  spread_below : (ps : List Piece) → All (λ (p : Piece). IsOnMap g stands p.key) ps → All Below (spread g stands ps)
-  unfolding IsOnMap
-  spread_below [] h = All_none Below
-  spread_below (p ∷ ps) h =
-      All-append Below (scaled p.factor (columns_of g stands p.key).terms) (spread g stands ps)
-      (All_to_map Below (λ (t : Coef). coef (p.factor *ℤ t.factor) t.column) (columns_of g stands p.key).terms (All_head (λ (p : Piece). IsOnMap g stands p.key) p ps h))
-      (spread_below ps (All_tail (λ (p : Piece). IsOnMap g stands p.key) p ps h))
-
-  formed_row : All (λ (p : Piece). IsOnMap g stands p.key) pieces → AreTerms (length stands) (kept (joins sorted))
+  formed_row : IsJoinedOn g stands pieces → AreTerms (length stands) (kept (joins sorted))
+  unfolding IsJoinedOn
   formed_row named =
-      let below : All (λ (s : Scrap). s.column < length stands) scraps = All_of_map Below told scraps (subst (All Below) (sym spread_is) (spread_below pieces named)) in
-      let all : All (λ (s : Scrap). s.column < length stands) (joins sorted) = joins_all (λ n. n < length stands) sorted (All-permutation (λ (s : Scrap). s.column < length stands) scraps sorted perm below) in
+      let from = from_kept nonzero 0 (map told (joins sorted)) (from_told 0 (joins sorted) (joins_strict sorted (rises_sorted sorted rising))) in
+      let none : (c : ℕ) → length stands ≤ c → column_factor (kept (joins sorted)) c ≡ pos 0 = λ c le. kept_there c scraps sorted perm ∙ ap (λ (ts : List Coef). column_factor ts c) spread_is ∙ named c le in
       record {
-        rising = increasing 0 (kept (joins sorted)) (from_kept nonzero 0 (map told (joins sorted)) (from_told 0 (joins sorted) (joins_strict sorted (rises_sorted sorted rising))));
-        there = All-filter nonzero Below (map told (joins sorted)) (All_to_map Below told (joins sorted) all);
+        rising = increasing 0 (kept (joins sorted)) from;
+        there = none_above (length stands) 0 (kept (joins sorted)) from (kept_nonzero (map told (joins sorted))) none;
         factors = kept_nonzero (map told (joins sorted));
       }
 
-  pub row_made : All (λ (p : Piece). IsOnMap g stands p.key) pieces → (terms : List Coef) (least : ℤ) → terms ≡ kept (joins sorted) → least ≡ neg_ℤ (c +ℤ total_by (λ (p : Piece). p.factor *ℤ constant_of g p.key) pieces) → IsRowOf g stands (form c pieces) (record { terms = terms; least = least })
+  pub row_made : IsJoinedOn g stands pieces → (terms : List Coef) (least : ℤ) → terms ≡ kept (joins sorted) → least ≡ neg_ℤ (c +ℤ total_by (λ (p : Piece). p.factor *ℤ constant_of g p.key) pieces) → IsRowOf g stands (form c pieces) (record { terms = terms; least = least })
   row_made named terms least t l =
       subst (λ (ts : List Coef). IsRowOf g stands (form c pieces) (record { terms = ts; least = least })) (sym t)
       (subst (λ (n : ℤ). IsRowOf g stands (form c pieces) (record { terms = kept (joins sorted); least = n })) (sym (l ∙ ap (λ (z : ℤ). neg_ℤ (c +ℤ z)) (sym (constants_same g stands pieces)))) (record { formed = formed_row named; same = same_at }))

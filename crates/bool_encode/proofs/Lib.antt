@@ -10,4 +10,5 @@ pub mod RowLemmas
 pub mod LoopLemmas
 pub mod LightLemmas
 pub mod OneRow
+pub mod RowSizes
 pub mod Telling

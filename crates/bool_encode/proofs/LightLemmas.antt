@@ -40,6 +40,10 @@ truth_heft g stands z (AbsNode number) e = cc
 truth_heft g stands z (TotNode number) e = cc
 truth_heft g stands z (MinNode pairs) e = cc
 
+pub truth_light : (g : Graph) (stands : List Stand) (z : ℕ) → is_truth (node g z) ≡ true → heft (columns_of g stands (key.Node z)) ≤ 2
+unfolding columns_of
+truth_light g stands z e = truth_heft g stands z (node g z) e
+
 pub light_truth : (g : Graph) (stands : List Stand) (z : ℕ) → z < size g → IsOnMap g stands (key.Node z) → is_truth (node g z) ≡ true → IsKid g stands 2 z
 unfolding columns_of
 light_truth g stands z lt on e = record { there = lt; on_map = on; light = truth_heft g stands z (node g z) e }

@@ -17,25 +17,25 @@ use Rattle.bool_encode.proofs.Numbers.{times_one}
 
 -- ---- points with 1 at one column
 
-abbrev unit : ℕ → List ℤ
+abbrev pub unit : ℕ → List ℤ
 unit zero = pos 1 ∷ []
 unit (suc m) = pos 0 ∷ unit m
 
 -- the factor of a column
-abbrev share : List Coef → ℕ → ℤ
+abbrev pub share : List Coef → ℕ → ℤ
 share terms m = sum_at (unit m) terms
 
-unit_self : (m : ℕ) → number_at (unit m) m ≡ pos 1
+pub unit_self : (m : ℕ) → number_at (unit m) m ≡ pos 1
 unit_self zero = refl
 unit_self (suc m) = unit_self m
 
-unit_other : (m c : ℕ) → c ≢ m → number_at (unit m) c ≡ pos 0
+pub unit_other : (m c : ℕ) → c ≢ m → number_at (unit m) c ≡ pos 0
 unit_other zero zero ne = absurd (ne refl)
 unit_other zero (suc c) ne = refl
 unit_other (suc m) zero ne = refl
 unit_other (suc m) (suc c) ne = unit_other m c (λ e. ne (ap suc e))
 
-skips : (k n rest : ℤ) → n ≡ pos 0 → k *ℤ n +ℤ rest ≡ rest
+pub skips : (k n rest : ℤ) → n ≡ pos 0 → k *ℤ n +ℤ rest ≡ rest
 skips k n rest e = ap (λ (x : ℤ). k *ℤ x +ℤ rest) e ∙ zero_rest k rest
   where
     zero_rest : (k rest : ℤ) → k *ℤ pos 0 +ℤ rest ≡ rest
@@ -48,7 +48,7 @@ takes k n rest e z = (λ i. k *ℤ e i +ℤ z i) ∙ once k
     once k = omega (arith, ints)
 
 -- terms that rise behind a column have nothing of it
-share_none : (m : ℕ) (ts : List Coef) → From (suc m) ts → share ts m ≡ pos 0
+pub share_none : (m : ℕ) (ts : List Coef) → From (suc m) ts → share ts m ≡ pos 0
 share_none m [] h = refl
 share_none m (t ∷ ts) h =
     let above = h.0 in
@@ -58,7 +58,7 @@ share_none m (t ∷ ts) h =
     from_above m c [] le h = tt
     from_above m c (t ∷ ts) le h = let a = h.0 in (omega (arith, a, le), h.1)
 
-share_first : (t : Coef) (ts : List Coef) → From (suc t.column) ts → share (t ∷ ts) t.column ≡ t.factor
+pub share_first : (t : Coef) (ts : List Coef) → From (suc t.column) ts → share (t ∷ ts) t.column ≡ t.factor
 share_first t ts h = takes t.factor (number_at (unit t.column) t.column) (share ts t.column) (unit_self t.column) (share_none t.column ts h)
 
 cancel : (a b x y : ℤ) → a ≡ b → a +ℤ x ≡ b +ℤ y → x ≡ y
@@ -84,7 +84,7 @@ terms_one (t ∷ ts) (u ∷ us) n m p q some more same = elim (cases_lt t.column
 
 -- ---- rows
 
-rises_from : (n : ℕ) (ts : List Coef) → ((t : Coef) → 0 < length ts → n ≤ slice_index (map (λ (t : Coef). t.column) ts) 0) → IsStrictlyIncreasing (map (λ (t : Coef). t.column) ts) → From n ts
+pub rises_from : (n : ℕ) (ts : List Coef) → ((t : Coef) → 0 < length ts → n ≤ slice_index (map (λ (t : Coef). t.column) ts) 0) → IsStrictlyIncreasing (map (λ (t : Coef). t.column) ts) → From n ts
 rises_from n [] first h = tt
 rises_from n (t ∷ ts) first h = (first t (omega arith), rises_from (suc t.column) ts (next t ts h) (tail t ts h))
   where
@@ -97,7 +97,7 @@ rises_from n (t ∷ ts) first h = (first t (omega arith), rises_from (suc t.colu
     next t [] h u lt = absurd (omega arith)
     next t (v ∷ ts) h u lt = let a = h 0 (omega arith) in omega (arith, a)
 
-nothing_at : (ts : List Coef) → sum_at [] ts ≡ pos 0
+pub nothing_at : (ts : List Coef) → sum_at [] ts ≡ pos 0
 nothing_at [] = refl
 nothing_at (t ∷ ts) = skips t.factor (pos 0) (sum_at [] ts) refl ∙ nothing_at ts
 

@@ -1,17 +1,18 @@
 -- From forms to rows: constants to the right, and like columns joined.
-use Rattle.std.specs.Prelude.{◌≡◌, ◌+◌, ◌*◌, ◌<◌, ◌≤◌, ℕ, ℤ, pos, ◌+ℤ◌, ◌*ℤ◌, ◌≤ℤ◌, unsigned_abs, List, [], ◌∷◌, length}
+use Rattle.std.specs.Prelude.{◌≡◌, ◌+◌, ◌*◌, ◌<◌, ◌≤◌, ◌==◌, ℕ, ℤ, pos, ◌+ℤ◌, ◌*ℤ◌, ◌≤ℤ◌, if◌then◌else◌, unsigned_abs, List, [], ◌∷◌, length}
 use Rattle.ip_rows.specs.declared.rows.Coef.{Coef}
 use Rattle.ip_rows.specs.declared.rows.IpRow.{IpRow}
 use Rattle.ip_rows.specs.Rows.{AreTerms}
 use Rattle.ip_rows.specs.Programs.{sum_at}
 use Rattle.prov_fold.specs.Graphs.{Graph, size}
-use Rattle.prov_fold.specs.Sums.{added_by}
+use Rattle.prov_fold.specs.Sums.{added_by, total_by}
 use Rattle.bool_encode.specs.declared.form.Key.{Key}
 use Rattle.bool_encode.specs.declared.form.Key.TheVariants as key
 use Rattle.bool_encode.specs.declared.form.Piece.{Piece}
 use Rattle.bool_encode.specs.declared.stand.Stand.{Stand}
 use Rattle.bool_encode.specs.Forms.{Form, form_at}
 use Rattle.bool_encode.specs.Columns.{Columns, columns_of, reading, IsOnMap}
+use Rattle.bool_encode.specs.Scraps.{spread}
 
 -- the row holds at a point over d
 abbrev pub HoldsOver : ℕ → List ℤ → IpRow → Type 0
@@ -32,6 +33,18 @@ AreRows g stands _ _ = ⊥
 abbrev pub IsKey : Graph → Key → Type 0
 IsKey g (key.Node z) = z < size g
 IsKey g (key.Selector z i) = Unit {0}
+
+-- the factor of a term at a column; of a term elsewhere none
+abbrev pub factor_there : ℕ → Coef → ℤ
+factor_there c t = if t.column == c then t.factor else pos 0
+
+-- the factors at a column together
+abbrev pub column_factor : List Coef → ℕ → ℤ
+column_factor terms c = total_by (factor_there c) terms
+
+-- with like columns joined, no factor is left at a column that is not there
+unfoldable pub IsJoinedOn : Graph → List Stand → List Piece → Type 0
+IsJoinedOn g stands pieces = (c : ℕ) → length stands ≤ c → column_factor (spread g stands pieces) c ≡ pos 0
 
 -- the sizes of the numbers that make up a key
 abbrev pub heft : Columns → ℕ

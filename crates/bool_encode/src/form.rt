@@ -7,7 +7,7 @@ ghost use Rattle.prov_fold.specs.Sums.{added_by, total_by};
 ghost use Rattle.bool_encode.specs.Forms.{form};
 ghost use Rattle.bool_encode.specs.Stands.{IsMap};
 ghost use Rattle.bool_encode.specs.Columns.{IsOnMap, coef, column_at, columns_by, columns_of, constant_by, constant_of};
-ghost use Rattle.bool_encode.specs.Rows.{IsKey, IsRowOf, weight};
+ghost use Rattle.bool_encode.specs.Rows.{IsJoinedOn, IsKey, IsRowOf, weight};
 ghost use Rattle.bool_encode.specs.Scraps.{told, scaled, spread};
 ghost use Rattle.bool_encode.specs.Tables.{times as times_of};
 
@@ -58,6 +58,25 @@ pub fn form_row(
     requires map { IsMap map.now.stands }
     requires there { All (λ (p : _). IsKey fold.now p.key) pieces.now }
     requires named { All (λ (p : _). IsOnMap fold.now map.now.stands p.key) pieces.now }
+    requires light { weight fold.now map.now.stands constant pieces.now < 2 ^ 63 }
+    ensures row { IfOk result (λ row. IsRowOf fold.now map.now.stands (form constant pieces.now) row) }
+{
+    joined_row(alloc, fold, map, constant, pieces)
+}
+
+/// The same where like columns may cancel: once they are joined, no factor is left at a column that is not on the map. A node
+/// without a column of its own may so stand in the form, as `t` and `Not(t)` together do. All numbers of the form together are
+/// below 2^63 in size. `Err` is want of memory (docs/ENCODING.md).
+pub fn joined_row(
+    alloc: Global,
+    fold: &Fold<'_>,
+    map: &ColumnMap,
+    constant: i64,
+    pieces: &[Piece],
+) -> Result<IpRow, Memory>
+    requires map { IsMap map.now.stands }
+    requires there { All (λ (p : _). IsKey fold.now p.key) pieces.now }
+    requires named { IsJoinedOn fold.now map.now.stands pieces.now }
     requires light { weight fold.now map.now.stands constant pieces.now < 2 ^ 63 }
     ensures row { IfOk result (λ row. IsRowOf fold.now map.now.stands (form constant pieces.now) row) }
 {

@@ -7,7 +7,7 @@ mod rows;
 mod scrap;
 mod stand;
 
-pub use form::{Key, Piece, form_row, times};
+pub use form::{Key, Piece, form_row, joined_row, times};
 pub use point::point_of;
 pub use rows::bool_rows;
 pub use stand::{ColumnMap, Stand};

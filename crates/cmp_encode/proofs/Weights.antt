@@ -43,6 +43,10 @@ number_heft g stands z (AbsNode number) fold fits e = cc
 number_heft g stands z (TotNode number) fold fits e = cc
 number_heft g stands z (MinNode pairs) fold fits e = cc
 
+pub number_light : (g : Graph) (stands : List Stand) (z : ℕ) → IsFold g → z < size g → is_number (node g z) ≡ true → heft (columns_of g stands (key.Node z)) ≤ 300000000000000000
+unfolding columns_of
+number_light g stands z fold lt e = number_heft g stands z (node g z) fold (fold.fits z lt) e
+
 pub number_kid : (g : Graph) (stands : List Stand) (z : ℕ) → IsFold g → z < size g → IsOnMap g stands (key.Node z) → is_number (node g z) ≡ true → IsKid g stands 300000000000000000 z
 unfolding columns_of
 number_kid g stands z fold lt on e = record { there = lt; on_map = on; light = number_heft g stands z (node g z) fold (fold.fits z lt) e }

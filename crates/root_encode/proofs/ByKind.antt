@@ -1,22 +1,17 @@
 -- What is asked of a truth of each kind, and what it takes.
-use Rattle.std.proofs.Common.{◌≡◌, ◌∙◌, sym, ap, subst, ℕ, zero, suc, ◌+◌, ◌<◌, ℤ, pos, negsuc, ◌-ℤ◌, Bool, true, false, not, cond, List, [], ◌∷◌, ◌++◌, flat_map, length, get_or, take, All, arith, append_assoc, append-nil}
+use Rattle.std.proofs.Common.{◌≡◌, ◌∙◌, sym, ap, subst, ℕ, zero, suc, ◌+◌, ◌<◌, pos, negsuc, ◌-ℤ◌, Bool, true, false, not, cond, List, [], ◌∷◌, ◌++◌, map, flat_map, length, get_or, take, All, arith, append_assoc, append-nil}
 use Rattle.ip_rows.specs.declared.rows.IpRow.{IpRow}
 use Rattle.prov_arena.specs.Formulas.{Formula, FalseNode, TrueNode, PresNode, PosNode, NotNode, AndNode, OrNode, kids_of}
 use Rattle.prov_fold.specs.Graphs.{Graph, node, size, range, Fits, HasTruth}
 use Rattle.prov_fold.specs.Folds.{IsFold}
-use Rattle.prov_fold.specs.Kinds.{is_truth}
-use Rattle.bool_encode.specs.declared.form.Key.{Key}
-use Rattle.bool_encode.specs.declared.form.Key.TheVariants as key
-use Rattle.bool_encode.specs.declared.form.Piece.{Piece}
 use Rattle.bool_encode.specs.declared.stand.Stand.{Stand}
-use Rattle.bool_encode.specs.Columns.{IsOnMap}
 use Rattle.bool_encode.specs.Forms.{Form, form}
-use Rattle.bool_encode.specs.Rows.{AreRows, IsKid}
+use Rattle.bool_encode.specs.Rows.{AreRows, IsJoinedOn}
 use Rattle.bool_encode.specs.Tables.{times}
-use Rattle.bool_encode.proofs.Each.{All_of_map}
-use Rattle.bool_encode.proofs.LightLemmas.{light_truth, light_truths}
-use Rattle.cmp_encode.proofs.Weights.{number_kid}
-use Rattle.root_encode.specs.Roots.{OnlyName, root_forms, sum_form, pos_form, pres_form}
+use Rattle.bool_encode.proofs.LightLemmas.{truth_light}
+use Rattle.cmp_encode.proofs.Weights.{number_light}
+use Rattle.root_encode.specs.Roots.{AreJoinedOn, root_forms, sum_form, pos_form, pres_form}
+use Rattle.root_encode.specs.Light.{IsLightNode}
 use Rattle.root_encode.specs.Told.{Adds}
 use Rattle.root_encode.proofs.Asked.{asked_is}
 use Rattle.root_encode.proofs.Meant.{plain_truth}
@@ -78,50 +73,52 @@ module _ (g : Graph) (fold : IsFold g) (z : ℕ) (lt : z < size g) where
   or_kids kids e = λ j d less. let k = below (OrNode kids) e j d less in record { below = omega (arith, k, lt); kind = (fits_as (OrNode kids) e).typed j d less }
 
   module _ (stands : List Stand) where
-    abbrev Named : List Form → Type 0
-    Named forms = OnlyName (IsOnMap g stands) forms
+    light_kids : (kids : List ℕ) → All (λ k. HasTruth g k) kids → All (IsLightNode g stands 2) kids
+    light_kids kids truths = λ j d less. record { there = (truths j d less).below; light = truth_light g stands (get_or kids j d) (truths j d less).kind }
 
-    sum_kids : (c s : ℤ) (kids : List ℕ) → All (λ k. HasTruth g k) kids → Named (sum_form c s kids ∷ []) → All (IsKid g stands 2) kids
-    sum_kids c s kids truths named =
-        light_truths g stands kids (λ j d less. (truths j d less).below) (All_of_map (λ (p : Piece). IsOnMap g stands p.key) (times s) kids named.0) (λ j d less. (truths j d less).kind)
+    pub and_light : (kids : List ℕ) → AndNode kids ≡ node g z → All (IsLightNode g stands 2) kids
+    and_light kids e = light_kids kids (and_kids kids e)
 
-    pub and_light : (b : Bool) (kids : List ℕ) → AndNode kids ≡ node g z → b ≡ false → Named (root_forms g b z) → All (IsKid g stands 2) kids
-    and_light b kids e h named = sum_kids (pos (length kids) -ℤ pos 1) (negsuc 0) kids (and_kids kids e) (subst Named (sym (and_lacks b kids e h)) named)
+    pub or_light : (kids : List ℕ) → OrNode kids ≡ node g z → All (IsLightNode g stands 2) kids
+    or_light kids e = light_kids kids (or_kids kids e)
 
-    pub or_light : (b : Bool) (kids : List ℕ) → OrNode kids ≡ node g z → b ≡ true → Named (root_forms g b z) → All (IsKid g stands 2) kids
-    or_light b kids e h named = sum_kids (negsuc 0) (pos 1) kids (or_kids kids e) (subst Named (sym (or_held b kids e h)) named)
-
-    pos_named : (b : Bool) (n : ℕ) → Named (pos_form b n ∷ []) → IsOnMap g stands (key.Node n)
-    pos_named true n named = named.0 0 (times (pos 0) 0) (omega arith)
-    pos_named false n named = named.0 0 (times (pos 0) 0) (omega arith)
-
-    pub pos_light : (b : Bool) (n : ℕ) → PosNode n ≡ node g z → Named (root_forms g b z) → IsKid g stands 300000000000000000 n
-    pos_light b n e named =
+    pub pos_light : (n : ℕ) → PosNode n ≡ node g z → IsLightNode g stands 300000000000000000 n
+    pos_light n e =
         let k = below (PosNode n) e 0 0 (omega arith) in
-        number_kid g stands n fold (omega (arith, k, lt)) (pos_named b n (subst Named (sym (pos_is b n e)) named)) (fits_as (PosNode n) e).typed
+        record { there = omega (arith, k, lt); light = number_light g stands n fold (omega (arith, k, lt)) (fits_as (PosNode n) e).typed }
 
-    pres_named : (b : Bool) → Named (pres_form b z ∷ []) → IsOnMap g stands (key.Node z)
-    pres_named true named = named.0 0 (times (pos 0) 0) (omega arith)
-    pres_named false named = named.0 0 (times (pos 0) 0) (omega arith)
+    -- what is left of the single form
+    abbrev Joined : List Form → Type 0
+    Joined forms = AreJoinedOn g stands forms
 
-    pub pres_light : (b : Bool) (column : ℕ) → PresNode column ≡ node g z → is_truth (node g z) ≡ true → Named (root_forms g b z) → IsKid g stands 2 z
-    pres_light b column e truth named = light_truth g stands z lt (pres_named b (subst Named (sym (pres_is b column e)) named)) truth
+    pub and_joined : (b : Bool) (kids : List ℕ) → AndNode kids ≡ node g z → b ≡ false → Joined (root_forms g b z) → IsJoinedOn g stands (map (times (negsuc 0)) kids)
+    and_joined b kids e h named = (subst Joined (sym (and_lacks b kids e h)) named).0
+
+    pub or_joined : (b : Bool) (kids : List ℕ) → OrNode kids ≡ node g z → b ≡ true → Joined (root_forms g b z) → IsJoinedOn g stands (map (times (pos 1)) kids)
+    or_joined b kids e h named = (subst Joined (sym (or_held b kids e h)) named).0
+
+    pub pos_joined : (b : Bool) (n : ℕ) → PosNode n ≡ node g z → Joined (root_forms g b z) → IsJoinedOn g stands (pos_form b n).pieces
+    pos_joined b n e named = (subst Joined (sym (pos_is b n e)) named).0
+
+    pub pres_joined : (b : Bool) (column : ℕ) → PresNode column ≡ node g z → Joined (root_forms g b z) → IsJoinedOn g stands (pres_form b z).pieces
+    pres_joined b column e named = (subst Joined (sym (pres_is b column e)) named).0
 
 -- ---- truths in turn
 
-name_left : (P : Key → Type 0) (xs ys : List Form) → OnlyName P (xs ++ ys) → OnlyName P xs
-name_left P [] ys h = tt
-name_left P (x ∷ xs) ys h = (h.0, name_left P xs ys h.1)
+module _ (g : Graph) (stands : List Stand) where
+  left_joined : (xs ys : List Form) → AreJoinedOn g stands (xs ++ ys) → AreJoinedOn g stands xs
+  left_joined [] ys h = tt
+  left_joined (x ∷ xs) ys h = (h.0, left_joined xs ys h.1)
 
-name_right : (P : Key → Type 0) (xs ys : List Form) → OnlyName P (xs ++ ys) → OnlyName P ys
-name_right P [] ys h = h
-name_right P (x ∷ xs) ys h = name_right P xs ys h.1
+  right_joined : (xs ys : List Form) → AreJoinedOn g stands (xs ++ ys) → AreJoinedOn g stands ys
+  right_joined [] ys h = h
+  right_joined (x ∷ xs) ys h = right_joined xs ys h.1
 
--- what is named of one among truths
-pub name_one : (P : Key → Type 0) (f : ℕ → List Form) (kids : List ℕ) (i : ℕ) → i < length kids → OnlyName P (flat_map f kids) → OnlyName P (f (get_or kids i 0))
-name_one P f [] i lt h = absurd (omega (arith, lt))
-name_one P f (k ∷ kids) zero lt h = name_left P (f k) (flat_map f kids) h
-name_one P f (k ∷ kids) (suc i) lt h = name_one P f kids i (omega (arith, lt)) (name_right P (f k) (flat_map f kids) h)
+  -- what is left of the forms of one among truths
+  pub one_joined : (f : ℕ → List Form) (kids : List ℕ) (i : ℕ) → i < length kids → AreJoinedOn g stands (flat_map f kids) → AreJoinedOn g stands (f (get_or kids i 0))
+  one_joined f [] i lt h = absurd (omega (arith, lt))
+  one_joined f (k ∷ kids) zero lt h = left_joined (f k) (flat_map f kids) h
+  one_joined f (k ∷ kids) (suc i) lt h = one_joined f kids i (omega (arith, lt)) (right_joined (f k) (flat_map f kids) h)
 
 rows_both : (g : Graph) (stands : List Stand) (xs ys : List Form) (made more : List IpRow) → AreRows g stands xs made → AreRows g stands ys more → AreRows g stands (xs ++ ys) (made ++ more)
 rows_both g stands [] ys [] more h k = k

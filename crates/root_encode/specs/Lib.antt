@@ -1,2 +1,3 @@
 pub mod Roots
 pub mod Told
+pub mod Light

@@ -1,10 +1,10 @@
 -- What is asked of a truth, as forms that are to be 0 or above: that it holds, or that it does not.
-use Rattle.std.specs.Prelude.{ℕ, zero, suc, ℤ, pos, negsuc, ◌-ℤ◌, Bool, true, false, not, List, [], ◌∷◌, map, flat_map, length, All}
+use Rattle.std.specs.Prelude.{ℕ, zero, suc, ℤ, pos, negsuc, ◌-ℤ◌, Bool, true, false, not, List, [], ◌∷◌, map, flat_map, length}
 use Rattle.prov_arena.specs.Formulas.{Formula, FalseNode, TrueNode, PresNode, PosNode, NotNode, AndNode, OrNode}
 use Rattle.prov_fold.specs.Graphs.{Graph, node}
-use Rattle.bool_encode.specs.declared.form.Key.{Key}
-use Rattle.bool_encode.specs.declared.form.Piece.{Piece}
+use Rattle.bool_encode.specs.declared.stand.Stand.{Stand}
 use Rattle.bool_encode.specs.Forms.{Form, form}
+use Rattle.bool_encode.specs.Rows.{IsJoinedOn}
 use Rattle.bool_encode.specs.Tables.{times}
 
 -- a constant and the sum of the nodes, with a sign
@@ -44,7 +44,7 @@ asked g (suc n) holds z = asked_by (asked g n) holds z (node g z)
 unfoldable pub root_forms : Graph → Bool → ℕ → List Form
 root_forms g holds z = asked g (suc z) holds z
 
--- each key that the forms name is such a key
-abbrev pub OnlyName : (Key → Type 0) → List Form → Type 0
-OnlyName P [] = Unit {0}
-OnlyName P (r ∷ rs) = All (λ (p : Piece). P p.key) r.pieces × OnlyName P rs
+-- of each form, with like columns joined, no factor is left at a column that is not there
+abbrev pub AreJoinedOn : Graph → List Stand → List Form → Type 0
+AreJoinedOn g stands [] = Unit {0}
+AreJoinedOn g stands (r ∷ rs) = IsJoinedOn g stands r.pieces × AreJoinedOn g stands rs

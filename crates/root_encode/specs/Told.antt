@@ -1,5 +1,5 @@
 -- What the rows of a root tell: that it holds.
-use Rattle.std.specs.Prelude.{◌≡◌, ◌<◌, ◌↔◌, ℕ, ℤ, true, List, ◌++◌, All}
+use Rattle.std.specs.Prelude.{◌≡◌, ◌<◌, ◌↔◌, ℕ, ℤ, pos, ◌*ℤ◌, true, List, [], ◌∷◌, ◌++◌, All}
 use Rattle.ip_rows.specs.declared.rows.IpRow.{IpRow}
 use Rattle.prov_fold.specs.Graphs.{Graph}
 use Rattle.prov_fold.specs.Values.{HasNumbers, holds}
@@ -7,21 +7,26 @@ use Rattle.prov_fold.specs.Meanings.{values_in}
 use Rattle.bool_encode.specs.declared.form.Key.{Key}
 use Rattle.bool_encode.specs.declared.form.Key.TheVariants as key
 use Rattle.bool_encode.specs.declared.stand.Stand.{Stand}
-use Rattle.bool_encode.specs.Forms.{Form}
+use Rattle.bool_encode.specs.Forms.{Form, form_at}
+use Rattle.bool_encode.specs.Columns.{reading}
 use Rattle.bool_encode.specs.Rows.{AreRows, HoldsOver}
-use Rattle.bool_encode.specs.Tellings.{IsRight}
-use Rattle.root_encode.specs.Roots.{OnlyName, root_forms}
+use Rattle.root_encode.specs.Roots.{root_forms}
 
--- a node at which a point over d has its value
-abbrev pub IsRightAt : Graph → List Stand → List ℤ → ℕ → List ℤ → Key → Type 0
-IsRightAt g stands world d point (key.Node z) = IsRight g stands world d point z
-IsRightAt g stands world d point (key.Selector z pair) = ⊥
+-- what a key is on a world: a node its value. No selector stands in a root's forms
+abbrev pub value_of : Graph → List ℤ → Key → ℤ
+value_of g world (key.Node z) = values_in g world z
+value_of g world (key.Selector z pair) = pos 0
 
--- a point over d that has the values on a world at the places that a root's rows name
+-- the point over d gives each form what it is on the world
+abbrev pub AreRight : Graph → List Stand → List ℤ → ℕ → List ℤ → List Form → Type 0
+AreRight g stands world d point [] = Unit {0}
+AreRight g stands world d point (r ∷ rs) = (form_at d (reading g stands d point) r ≡ form_at d (λ k. value_of g world k *ℤ pos d) r) × AreRight g stands world d point rs
+
+-- a point over d at which each of a root's forms comes to what it is on the world. The nodes that they name may be wrong, where they cancel
 pub record IsReadied (g : Graph) (stands : List Stand) (root : ℕ) (world : List ℤ) (d : ℕ) (point : List ℤ) : Type 0 where
   pub numbers : HasNumbers g world
   pub some : 0 < d
-  pub right : OnlyName (IsRightAt g stands world d point) (root_forms g true root)
+  pub right : AreRight g stands world d point (root_forms g true root)
 
 -- at such points all rows hold exactly where the root does. Whole points are those over 1
 unfoldable pub TellsRoot : Graph → List Stand → ℕ → List IpRow → Type 0

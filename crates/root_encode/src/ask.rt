@@ -2,12 +2,12 @@
 ghost use Rattle.std.specs.Prelude.{◌≡◌, ◌<◌, ◌++◌, ◌∷◌, [], ◌-ℤ◌, pos, negsuc, cond, not, flat_map, length, unsigned_abs, ◌≤◌, ◌+◌, All, OnOk};
 ghost use Rattle.prov_fold.specs.Graphs.{HasTruth, HasNumber, node, size};
 ghost use Rattle.prov_arena.specs.Formulas.{AndNode, OrNode, PosNode};
-ghost use Rattle.bool_encode.specs.Columns.{IsOnMap};
 ghost use Rattle.bool_encode.specs.Forms.{form};
 ghost use Rattle.bool_encode.specs.Stands.{IsMap};
-ghost use Rattle.bool_encode.specs.Rows.{IsKid};
+ghost use Rattle.bool_encode.specs.Rows.{IsJoinedOn};
 ghost use Rattle.bool_encode.specs.Tables.{times as times_of};
-ghost use Rattle.root_encode.specs.Roots.{OnlyName, root_forms, sum_form, pos_form, pres_form};
+ghost use Rattle.root_encode.specs.Light.{IsLightNode};
+ghost use Rattle.root_encode.specs.Roots.{AreJoinedOn, root_forms, sum_form, pos_form, pres_form};
 ghost use Rattle.root_encode.specs.Told.{Adds};
 
 use crate::rows::{never, sum_row, term_row};
@@ -29,7 +29,7 @@ pub(crate) fn ask(
 ) -> Result<(), Memory>
     requires map { IsMap map.now.stands }
     requires truth { HasTruth fold.now id }
-    requires named { OnlyName (IsOnMap fold.now map.now.stands) (root_forms fold.now holds id) }
+    requires named { AreJoinedOn fold.now map.now.stands (root_forms fold.now holds id) }
     ensures { OnOk result (Adds fold.now map.now.stands (root_forms fold.now holds id) rows.old rows.new) }
 {
     let _range = fold.range(id);
@@ -71,7 +71,7 @@ fn ask_each(
     requires map { IsMap map.now.stands }
     requires below { All (λ kid. kid < id) kids.now }
     requires truths { All (λ kid. HasTruth fold.now kid) kids.now }
-    requires named { OnlyName (IsOnMap fold.now map.now.stands) (flat_map (root_forms fold.now holds) kids.now) }
+    requires named { AreJoinedOn fold.now map.now.stands (flat_map (root_forms fold.now holds) kids.now) }
     ensures { OnOk result (Adds fold.now map.now.stands (flat_map (root_forms fold.now holds) kids.now) rows.old rows.new) }
 {
     for kid in kids {
@@ -89,7 +89,8 @@ fn ask_one(
     kids: &[u32],
 ) -> Result<(), Memory>
     requires map { IsMap map.now.stands }
-    requires kids { All (λ z. IsKid fold.now map.now.stands 2 z) kids.now }
+    requires kids { All (λ z. IsLightNode fold.now map.now.stands 2 z) kids.now }
+    requires named { IsJoinedOn fold.now map.now.stands (sum_form (negsuc 0) (pos 1) kids.now).pieces }
     ensures { OnOk result (Adds fold.now map.now.stands (sum_form (negsuc 0) (pos 1) kids.now ∷ []) rows.old rows.new) }
 {
     let row = sum_row(alloc, fold, map, -1, 1, kids)?;
@@ -105,7 +106,8 @@ fn ask_lack(
     kids: &[u32],
 ) -> Result<(), Memory>
     requires map { IsMap map.now.stands }
-    requires kids { All (λ z. IsKid fold.now map.now.stands 2 z) kids.now }
+    requires kids { All (λ z. IsLightNode fold.now map.now.stands 2 z) kids.now }
+    requires named { IsJoinedOn fold.now map.now.stands (sum_form (pos (length kids.now) -ℤ pos 1) (negsuc 0) kids.now).pieces }
     ensures { OnOk result (Adds fold.now map.now.stands (sum_form (pos (length kids.now) -ℤ pos 1) (negsuc 0) kids.now ∷ []) rows.old rows.new) }
 {
     let row = sum_row(alloc, fold, map, all_but_one(kids), -1, kids)?;
@@ -130,7 +132,8 @@ fn ask_pos(
     number: u32,
 ) -> Result<(), Memory>
     requires map { IsMap map.now.stands }
-    requires number { IsKid fold.now map.now.stands 300000000000000000 number }
+    requires number { IsLightNode fold.now map.now.stands 300000000000000000 number }
+    requires named { IsJoinedOn fold.now map.now.stands (pos_form holds number).pieces }
     ensures { OnOk result (Adds fold.now map.now.stands (pos_form holds number ∷ []) rows.old rows.new) }
 {
     let row = if holds {
@@ -151,7 +154,8 @@ fn ask_pres(
     id: u32,
 ) -> Result<(), Memory>
     requires map { IsMap map.now.stands }
-    requires node { IsKid fold.now map.now.stands 2 id }
+    requires node { IsLightNode fold.now map.now.stands 2 id }
+    requires named { IsJoinedOn fold.now map.now.stands (pres_form holds id).pieces }
     ensures { OnOk result (Adds fold.now map.now.stands (pres_form holds id ∷ []) rows.old rows.new) }
 {
     let row = if holds {

@@ -1,18 +1,17 @@
 //! Single rows, and all rows of a root.
 ghost use Rattle.std.specs.Prelude.{◌≡◌, ◌+◌, ◌≤◌, pos, negsuc, unsigned_abs, true, [], ◌∷◌, map, length, All, IfOk};
 ghost use Rattle.prov_fold.specs.Graphs.{HasTruth};
-ghost use Rattle.bool_encode.specs.Columns.{IsOnMap};
 ghost use Rattle.bool_encode.specs.Forms.{form};
 ghost use Rattle.bool_encode.specs.Stands.{IsMap};
-ghost use Rattle.bool_encode.specs.Rows.{AreRows, IsKid, IsRowOf};
+ghost use Rattle.bool_encode.specs.Rows.{AreRows, IsJoinedOn, IsRowOf};
 ghost use Rattle.bool_encode.specs.Tables.{times as times_of};
-ghost use Rattle.cmp_encode.specs.Light.{IsLight};
-ghost use Rattle.root_encode.specs.Roots.{OnlyName, root_forms, sum_form};
+ghost use Rattle.root_encode.specs.Light.{IsLightNode};
+ghost use Rattle.root_encode.specs.Roots.{AreJoinedOn, root_forms, sum_form};
 ghost use Rattle.root_encode.specs.Told.{TellsRoot};
 
 use crate::ask::ask;
 use base_kit::{List, Memory};
-use bool_encode::{ColumnMap, form_row, times};
+use bool_encode::{ColumnMap, joined_row, times};
 use ip_rows::IpRow;
 use prov_fold::Fold;
 use std::alloc::Global;
@@ -20,8 +19,9 @@ use std::alloc::Global;
 /// No memory holds so many kids.
 const MOST_KIDS: usize = 1 << 40;
 
-/// The rows that ask that a truth holds. At points that have the values of the places that they name, they hold exactly where it
-/// does. What they name is on the map. `Err` is want of memory (docs/ENCODING.md, "Roots").
+/// The rows that ask that a truth holds. At points at which each of its forms comes to what it is on a world, they hold exactly
+/// where the truth does. What is left of each form once like columns are joined is on the map: of `Or(t, Not(t))` nothing is, so
+/// that `t` needs no column. `Err` is want of memory (docs/ENCODING.md, "Roots").
 pub fn root_rows(
     alloc: Global,
     fold: &Fold<'_>,
@@ -30,7 +30,7 @@ pub fn root_rows(
 ) -> Result<List<IpRow>, Memory>
     requires map { IsMap map.now.stands }
     requires root { HasTruth fold.now root }
-    requires named { OnlyName (IsOnMap fold.now map.now.stands) (root_forms fold.now true root) }
+    requires named { AreJoinedOn fold.now map.now.stands (root_forms fold.now true root) }
     ensures rows { IfOk result (λ rows. AreRows fold.now map.now.stands (root_forms fold.now true root) rows) }
     ensures tells { IfOk result (λ rows. TellsRoot fold.now map.now.stands root rows) }
 {
@@ -51,10 +51,12 @@ pub(crate) fn term_row(
 ) -> Result<IpRow, Memory>
     requires map { IsMap map.now.stands }
     requires small { unsigned_abs constant ≤ 1000000000000000000 }
-    requires light { IsLight fold.now map.now.stands sign id }
+    requires sign { unsigned_abs sign ≤ 1 }
+    requires node { IsLightNode fold.now map.now.stands 300000000000000000 id }
+    requires named { IsJoinedOn fold.now map.now.stands (times_of sign id ∷ []) }
     ensures { IfOk result (λ row. IsRowOf fold.now map.now.stands (form constant (times_of sign id ∷ [])) row) }
 {
-    form_row(alloc, fold, map, constant, &[times(sign, id)])
+    joined_row(alloc, fold, map, constant, &[times(sign, id)])
 }
 
 /// The row that never holds.
@@ -62,7 +64,7 @@ pub(crate) fn never(alloc: Global, fold: &Fold<'_>, map: &ColumnMap) -> Result<I
     requires map { IsMap map.now.stands }
     ensures { IfOk result (λ row. IsRowOf fold.now map.now.stands (form (negsuc 0) []) row) }
 {
-    form_row(alloc, fold, map, -1, &[])
+    joined_row(alloc, fold, map, -1, &[])
 }
 
 /// The row of a constant and the sum of truths, with a sign.
@@ -75,7 +77,8 @@ pub(crate) fn sum_row(
     kids: &[u32],
 ) -> Result<IpRow, Memory>
     requires map { IsMap map.now.stands }
-    requires kids { All (λ z. IsKid fold.now map.now.stands 2 z) kids.now }
+    requires kids { All (λ z. IsLightNode fold.now map.now.stands 2 z) kids.now }
+    requires named { IsJoinedOn fold.now map.now.stands (sum_form constant sign kids.now).pieces }
     requires sign { unsigned_abs sign ≤ 1 }
     requires constant { unsigned_abs constant ≤ length kids.now + 1 }
     ensures { IfOk result (λ row. IsRowOf fold.now map.now.stands (sum_form constant sign kids.now) row) }
@@ -87,5 +90,5 @@ pub(crate) fn sum_row(
     for kid in kids {
         pieces.push(times(sign, *kid))?;
     }
-    form_row(alloc, fold, map, constant, pieces.as_slice())
+    joined_row(alloc, fold, map, constant, pieces.as_slice())
 }
