@@ -7,3 +7,6 @@ pub mod ListedLemmas
 pub mod SeedLemmas
 pub mod TakeLemmas
 pub mod UsedLaws
+pub mod Linear
+pub mod Readings
+pub mod JoinedSeeds
