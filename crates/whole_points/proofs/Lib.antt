@@ -6,5 +6,6 @@ pub mod Rights
 pub mod LeastNames
 pub mod Narrow
 pub mod Picks
+pub mod AtWorlds
 pub mod WorldPoints
 pub mod Whole

@@ -116,6 +116,9 @@ module _ (g : Graph) (stands : List Stand) where
   pub term_on : (z : ℕ) → is_term (node g z) ≡ true → column_at g stands z < length stands → IsOnMap g stands (key.Node z)
   term_on z e lt = by_on z (subst (λ (c : Columns). AreThere stands c.terms) (sym (term_once g stands z (node g z) e)) (one_there (column_at g stands z) lt))
 
+  pub term_there : (z : ℕ) → is_term (node g z) ≡ true → IsOnMap g stands (key.Node z) → column_at g stands z < length stands
+  term_there z e on = subst (λ (c : Columns). AreThere stands c.terms) (term_once g stands z (node g z) e) (on_by z (node g z) refl on) 0 (coef (pos 1) 0) (omega arith)
+
   pub own_there : (z : ℕ) → has_column (node g z) ≡ true → IsOnMap g stands (key.Node z) → column_of stands (stand.Node z) < length stands
   own_there z e on = subst (λ (c : Columns). AreThere stands c.terms) (own_once g stands z (node g z) e) (on_by z (node g z) refl on) 0 (coef (pos 1) 0) (omega arith)
 

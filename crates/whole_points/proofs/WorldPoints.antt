@@ -1,31 +1,17 @@
 -- A point over d of a matched program and the point of its world differ at selectors alone, and the latter is a whole point.
-use Rattle.std.proofs.Common.{◌≡◌, ◌∙◌, sym, ap, subst, refl, ℕ, zero, suc, ◌+◌, ◌<◌, ◌⊎◌, inl, inr, ℤ, pos, negsuc, ◌+ℤ◌, ◌*ℤ◌, ◌≤ℤ◌, Bool, true, false, List, [], ◌∷◌, map, flat_map, filter, length, get_or, All, Contains, arith}
-use Rattle.std.specs.List.{list_any}
+use Rattle.std.proofs.Common.{◌≡◌, ◌∙◌, sym, ap, subst, refl, ℕ, zero, suc, ◌<◌, ◌⊎◌, inl, inr, ℤ, pos, negsuc, ◌+ℤ◌, ◌*ℤ◌, ◌≤ℤ◌, List, [], ◌∷◌, map, length, get_or, All, Contains, arith}
 use Rattle.std.proofs.lemmas.Int.{ints}
-use Rattle.std.proofs.lemmas.List.{get_or-map, length-map}
-use Rattle.ip_rows.specs.declared.Bounds.{Bounds}
 use Rattle.ip_rows.specs.declared.rows.Coef.{Coef}
 use Rattle.ip_rows.specs.declared.rows.IpRow.{IpRow}
-use Rattle.ip_rows.specs.declared.program.ColumnKind.TheVariants as kind
-use Rattle.ip_rows.specs.declared.program.IpColumn.{IpColumn}
 use Rattle.ip_rows.specs.declared.program.Program.{Program}
-use Rattle.ip_rows.specs.Programs.{Holds, IsBetween, IsWellFormed, number_at, sides_of, sum_at}
-use Rattle.ip_rows.specs.Rows.{AreTerms, side_at}
+use Rattle.ip_rows.specs.Programs.{Holds, IsWellFormed, number_at, sum_at}
+use Rattle.ip_rows.specs.Rows.{AreTerms}
 use Rattle.prov_arena.specs.declared.part.Term.{Term}
-use Rattle.prov_arena.specs.declared.part.Pair.{Pair}
 use Rattle.prov_arena.specs.Formulas.{Formula, FalseNode, TrueNode, PresNode, CellNode, PosNode, NotNode, AndNode, OrNode, LinNode, GuardNode, AbsNode, TotNode, MinNode}
-use Rattle.prov_fold.specs.Graphs.{Graph, node, range, size}
+use Rattle.prov_fold.specs.Graphs.{Graph, node, size}
 use Rattle.prov_fold.specs.Folds.{IsFold}
-use Rattle.prov_fold.specs.Kinds.{is_truth, is_number}
-use Rattle.prov_fold.specs.Spans.{least}
-use Rattle.prov_fold.specs.Values.{as_number, holds, value_of}
 use Rattle.prov_fold.specs.Meanings.{values_in}
-use Rattle.prov_fold.proofs.AidMeanings.{min_aid}
-use Rattle.prov_fold.proofs.InsideLemmas.{inside_is}
-use Rattle.prov_fold.proofs.PlaceLemmas.{value_here, value_one}
-use Rattle.prov_fold.proofs.Rings.{+ℤ-*ℤ}
 use Rattle.prov_fold.proofs.SameLemmas.{All_cons}
-use Rattle.prov_fold.proofs.ValueLemmas.{IsIn}
 use Rattle.bool_encode.specs.declared.form.Key.{Key}
 use Rattle.bool_encode.specs.declared.form.Key.TheVariants as key
 use Rattle.bool_encode.specs.declared.stand.Stand.{Stand}
@@ -33,26 +19,18 @@ use Rattle.bool_encode.specs.declared.stand.Stand.TheVariants as stand
 use Rattle.bool_encode.specs.Forms.{Form, form_at, Hold}
 use Rattle.bool_encode.specs.Stands.{column_of, stand_at}
 use Rattle.bool_encode.specs.Columns.{coef, column_at as node_column, columns_by, reading, stand_by, IsOnMap}
-use Rattle.bool_encode.specs.Points.{HasPairAt, chosen_by, has_least, is_first, number_by, point_of}
+use Rattle.bool_encode.specs.Points.{HasPairAt, number_by, point_of}
 use Rattle.bool_encode.specs.Rows.{HoldsOver}
 use Rattle.bool_encode.proofs.Each.{All_none}
-use Rattle.bool_encode.proofs.FormLemmas.{Is, up}
-use Rattle.bool_encode.proofs.Numbers.{cancel_is, cancel_le, times_one, zero_d}
+use Rattle.bool_encode.proofs.Numbers.{cancel_le, times_one, zero_d}
 use Rattle.bool_encode.proofs.StandLemmas.{column_is}
-use Rattle.bool_encode.proofs.Telling.{below_at, fits_at, truth_bit}
-use Rattle.cmp_encode.specs.Spans.{narrow_span}
-use Rattle.cmp_encode.specs.Tables.{aid_of, forms_of, min_forms, named_by}
-use Rattle.cmp_encode.proofs.LeastForms.{PairIn, keyed, min_held}
-use Rattle.whole_points.specs.Matched.{IsMatched, IsColumnOf, IsOwn, IsSelector, HasRows, NamesSelector, column_at, has_column, world_count}
+use Rattle.cmp_encode.specs.Tables.{forms_of}
+use Rattle.whole_points.specs.Matched.{IsMatched, IsColumnOf, IsOwn, IsSelector, NamesSelector, column_at, world_count}
+use Rattle.whole_points.proofs.AtWorlds.{least_hold, q_stand, world_between}
 use Rattle.whole_points.proofs.WorldNumbers.{at_any, world_less}
-use Rattle.whole_points.specs.Points.{AgreeOver, IsNoSelector, IsPointOver, IsWholePoint, IsWorldOver}
-use Rattle.whole_points.proofs.Bits.{truth_between}
-use Rattle.whole_points.proofs.LeastNames.{names_min}
-use Rattle.whole_points.proofs.Named.{min_place, named_less}
-use Rattle.whole_points.proofs.Narrow.{narrow_in}
-use Rattle.whole_points.proofs.Picks.{picks_first}
-use Rattle.whole_points.proofs.Places.{AreThere, on_by, own_on, own_reads, own_there, reads, selector_reads, selector_there, stand_there}
-use Rattle.whole_points.proofs.Rights.{factor_step, numbers, right_at}
+use Rattle.whole_points.specs.Points.{AgreeOver, IsNoSelector, IsPointOver, IsWholePoint, IsWorldOver, IsWorldWithin}
+use Rattle.whole_points.proofs.Places.{AreThere, own_on, own_reads, stand_there}
+use Rattle.whole_points.proofs.Rights.{factor_step, right_at, within}
 
 -- ---- what columns stand for
 
@@ -126,34 +104,10 @@ named_or : (stands : List Stand) (terms : List Coef) → Named stands terms ⊎ 
 named_or stands [] = inr (All_none (λ (t : Coef). IsNoSelector (stand_at stands t.column)))
 named_or stands (t ∷ terms) = named_step stands t terms (stand_at stands t.column) refl (named_or stands terms)
 
--- ---- selectors are 0 or 1
-
-bit_within : (b : Bool) → (pos 0 ≤ℤ as_number b) × (as_number b ≤ℤ pos 1)
-bit_within true = (omega (arith, ints), omega (arith, ints))
-bit_within false = (omega (arith, ints), omega (arith, ints))
-
-chosen_within : (v : ℕ → ℤ) (z pair : ℕ) (m : Formula) → (pos 0 ≤ℤ chosen_by v z pair m) × (chosen_by v z pair m ≤ℤ pos 1)
-chosen_within v z pair (MinNode pairs) = bit_within (is_first (has_least v (v z)) pairs pair)
-chosen_within v z pair FalseNode = bit_within false
-chosen_within v z pair TrueNode = bit_within false
-chosen_within v z pair (PresNode c) = bit_within false
-chosen_within v z pair (CellNode c) = bit_within false
-chosen_within v z pair (PosNode n) = bit_within false
-chosen_within v z pair (NotNode t) = bit_within false
-chosen_within v z pair (AndNode kids) = bit_within false
-chosen_within v z pair (OrNode kids) = bit_within false
-chosen_within v z pair (LinNode c terms) = bit_within false
-chosen_within v z pair (GuardNode t n) = bit_within false
-chosen_within v z pair (AbsNode n) = bit_within false
-chosen_within v z pair (TotNode n) = bit_within false
-
 hold_in : (d : ℕ) (f : Key → ℤ) (forms : List Form) (r : Form) → Hold d f forms → Contains forms r → pos 0 ≤ℤ form_at d f r
 hold_in d f [] r h (k, lt, is) = absurd (omega (arith, lt))
 hold_in d f (s ∷ forms) r h (zero, lt, is) = subst (λ (r : Form). pos 0 ≤ℤ form_at d f r) is h.0
 hold_in d f (s ∷ forms) r h (suc k, lt, is) = hold_in d f forms r h.1 (k, omega (arith, lt), is)
-
-zero_plus : (j k : ℕ) → 0 + j ≡ k → k ≡ j
-zero_plus j k e = omega (arith, e)
 
 row_by : (s f l m : ℤ) → s ≡ f +ℤ l → l ≡ m → pos 0 ≤ℤ f → m ≤ℤ s
 row_by s f l m e is h = omega (arith, ints, e, is, h)
@@ -168,24 +122,23 @@ module _ (program : Program) (g : Graph) (stands : List Stand) (world : List ℤ
   right : (z : ℕ) → z < size g → IsOnMap g stands (key.Node z) → reading g stands d point (key.Node z) ≡ V z *ℤ pos d
   right z lt on = right_at program g stands world d point fold matched over long same z lt on
 
-  q_at : (number : ℕ) → number < length stands → number_at Q number ≡ number_by g world V (stand_at stands number)
-  unfolding point_of
-  q_at number lt = get_or-map (number_by g world V) stands number (stand.World 0) (pos 0) lt
+  world_in : IsWorldWithin program stands world
+  world_in = within program g stands world d point fold matched over long same
 
-  q_stand : (number : ℕ) (s : Stand) → number < length stands → stand_at stands number ≡ s → number_at Q number ≡ number_by g world V s
-  q_stand number s lt is = q_at number lt ∙ ap (number_by g world V) is
+  q_at : (number : ℕ) (s : Stand) → number < length stands → stand_at stands number ≡ s → number_at Q number ≡ number_by g world V s
+  q_at number s lt is = q_stand program g stands world fold matched world_in number s lt is
 
   -- ---- they agree but at selectors
 
   agree_by : (number : ℕ) → number < length stands → (s : Stand) → stand_at stands number ≡ s → IsNoSelector s → number_at point number ≡ number_at Q number *ℤ pos d
   agree_by number lt (stand.World c) is plain =
       let less = world_less program g stands world matched number c lt is in
-      same number less ∙ ap (λ (x : ℤ). x *ℤ pos d) (sym (q_stand number (stand.World number) lt (matched.begins.first number less)))
+      same number less ∙ ap (λ (x : ℤ). x *ℤ pos d) (sym (q_at number (stand.World number) lt (matched.begins.first number less)))
   agree_by number lt (stand.Node z) is plain =
       let own : IsOwn g z (column_at program.columns number) = subst (λ (s : Stand). IsColumnOf g stands s (column_at program.columns number)) is (matched.columns number lt) in
       let at : number ≡ column_of stands (stand.Node z) = column_is stands number (stand.Node z) matched.map lt is in
       let on = own_on g stands z own.kind (subst (λ k. k < length stands) at lt) in
-      ap (number_at point) at ∙ sym (own_reads g stands d point z own.kind) ∙ right z own.there on ∙ ap (λ (x : ℤ). x *ℤ pos d) (sym (q_stand number (stand.Node z) lt is))
+      ap (number_at point) at ∙ sym (own_reads g stands d point z own.kind) ∙ right z own.there on ∙ ap (λ (x : ℤ). x *ℤ pos d) (sym (q_at number (stand.Node z) lt is))
   agree_by number lt (stand.Selector z pair) is plain = absurd plain
 
   pub agree : AgreeOver d stands point Q
@@ -198,140 +151,8 @@ module _ (program : Program) (g : Graph) (stands : List Stand) (world : List ℤ
       let rest = sums_agree terms (λ j a l. there (suc j) a (omega arith)) (λ j a l. plain (suc j) a (omega arith)) in
       (λ i. t.factor *ℤ here i +ℤ rest i) ∙ factor_step t.factor (number_at Q t.column) (sum_at Q terms) d
 
-  -- so each node on the map has its value at the world's point too
-  read_right : (z : ℕ) → z < size g → IsOnMap g stands (key.Node z) → reading g stands 1 Q (key.Node z) ≡ V z *ℤ pos 1
-  read_right z lt on =
-      let columns = columns_by g stands z (node g z) in
-      let there = on_by g stands z (node g z) refl on in
-      let sums = sums_agree columns.terms there (columns_plain g stands z (node g z) there) in
-      let whole : (columns.constant +ℤ sum_at Q columns.terms) *ℤ pos d ≡ V z *ℤ pos d =
-      +ℤ-*ℤ columns.constant (sum_at Q columns.terms) (pos d) ∙ ap (λ (x : ℤ). columns.constant *ℤ pos d +ℤ x) (sym sums) ∙ sym (reads g stands d point z (node g z) refl) ∙ right z lt on in
-      reads g stands 1 Q z (node g z) refl ∙ ap (λ (x : ℤ). x +ℤ sum_at Q columns.terms) (times_one columns.constant) ∙ cancel_is (columns.constant +ℤ sum_at Q columns.terms) (V z) d over.some whole ∙ sym (times_one (V z))
-
-  -- ---- within the sides
-
-  abbrev Sides : ℕ → Bounds
-  Sides number = (column_at program.columns number).sides
-
-  scaled_within : (number : ℕ) → number < length stands → number_at point number ≡ number_at Q number *ℤ pos d → ((Sides number).lo ≤ℤ number_at Q number) × (number_at Q number ≤ℤ (Sides number).hi)
-  scaled_within number lt e =
-      let count = matched.count in
-      let there : number < length program.columns = omega (arith, lt, count) in (
-        cancel_le (Sides number).lo (number_at Q number) d over.some (subst (λ (x : ℤ). ((Sides number).lo *ℤ pos d) ≤ℤ x) e (over.low number there)),
-        cancel_le (number_at Q number) (Sides number).hi d over.some (subst (λ (x : ℤ). x ≤ℤ ((Sides number).hi *ℤ pos d)) e (over.high number there)),
-      )
-
-  number_within : (number : ℕ) → number < length stands → (s : Stand) → stand_at stands number ≡ s → (IsNoSelector s → number_at point number ≡ number_at Q number *ℤ pos d) → ((Sides number).lo ≤ℤ number_at Q number) × (number_at Q number ≤ℤ (Sides number).hi)
-  number_within number lt (stand.Selector z pair) is e =
-      let own : IsSelector g stands z pair (column_at program.columns number) = subst (λ (s : Stand). IsColumnOf g stands s (column_at program.columns number)) is (matched.columns number lt) in
-      let q = q_stand number (stand.Selector z pair) lt is in
-      let within = chosen_within V z pair (node g z) in (
-        subst (λ (c : IpColumn). c.sides.lo ≤ℤ number_at Q number) (sym own.is) (subst (λ (x : ℤ). pos 0 ≤ℤ x) (sym q) within.0),
-        subst (λ (c : IpColumn). number_at Q number ≤ℤ c.sides.hi) (sym own.is) (subst (λ (x : ℤ). x ≤ℤ pos 1) (sym q) within.1),
-      )
-  number_within number lt (stand.World c) is e = scaled_within number lt (e tt)
-  number_within number lt (stand.Node z) is e = scaled_within number lt (e tt)
-
-  within_at : (number : ℕ) → number < length stands → ((Sides number).lo ≤ℤ number_at Q number) × (number_at Q number ≤ℤ (Sides number).hi)
-  within_at number lt = number_within number lt (stand_at stands number) refl (agree number lt)
-
-  side_is : (number : ℕ) → number < length program.columns → side_at (sides_of program.columns) number ≡ Sides number
-  side_is number lt = get_or-map (λ (c : IpColumn). c.sides) program.columns number (record { kind = kind.World; sides = record { lo = pos 0; hi = pos 0 } }) (record { lo = pos 0; hi = pos 0 }) lt
-
-  sides_long : length (sides_of program.columns) ≡ length program.columns
-  sides_long = length-map program.columns (λ (c : IpColumn). c.sides)
-
-  q_long : length Q ≡ length stands
-  unfolding point_of
-  q_long = length-map stands (number_by g world V)
-
-  pub between : IsBetween (sides_of program.columns) Q
-  between =
-      let count = matched.count in
-      let long = sides_long in
-      let here = q_long in
-      record {
-        count = omega (arith, count, long, here);
-        low = λ number lt. subst (λ (b : Bounds). b.lo ≤ℤ number_at Q number) (sym (side_is number (omega (arith, lt, long)))) (within_at number (omega (arith, lt, long, count))).0;
-        high = λ number lt. subst (λ (b : Bounds). number_at Q number ≤ℤ b.hi) (sym (side_is number (omega (arith, lt, long)))) (within_at number (omega (arith, lt, long, count))).1;
-      }
-
-  -- ---- the rows of a least number
-
-  module _ (z : ℕ) (lt : z < size g) (on : IsOnMap g stands (key.Node z)) (pairs : List Pair) (e : node g z ≡ MinNode pairs) where
-    F : Key → ℤ
-    F = reading g stands 1 Q
-
-    w : ℕ → ℤ
-    w pair = chosen_by V z pair (MinNode pairs)
-
-    has : HasRows program g stands z
-    has =
-        let there = own_there g stands z (ap has_column e) on in
-        matched.rows (column_of stands (stand.Node z)) z there (stand_there stands (stand.Node z) there)
-
-    abbrev Kids : List Pair → List ℕ
-    Kids ps = flat_map (λ (p : Pair). p.truth ∷ p.number ∷ []) ps
-
-    less : All (λ k. k < z) (Kids pairs)
-    less = below_at g z world 1 F fold lt (omega arith) (numbers program g stands world d point fold matched over long same) (MinNode pairs) e
-
-    typed : All (λ (p : Pair). (is_truth (node g p.truth) ≡ true) × (is_number (node g p.number) ≡ true)) pairs
-    typed = (fits_at g z world 1 F fold lt (omega arith) (numbers program g stands world d point fold matched over long same) (MinNode pairs) e).typed
-
-    pair_in : (p : Pair) → p.truth < z → p.number < z → is_truth (node g p.truth) ≡ true → PairIn V (range g) p
-    pair_in p t n truth =
-        let has_all = numbers program g stands world d point fold matched over long same in
-        let b = truth_between (V p.truth) (truth_bit g z world 1 F fold lt (omega arith) has_all p.truth t truth) in
-        let i = inside_is g world fold has_all p.number (omega (arith, n, lt)) in
-        record { truth_low = b.0; truth_high = b.1; low = i.low; high = i.high }
-
-    pairs_in : (ps : List Pair) → All (λ k. k < z) (Kids ps) → All (λ (p : Pair). (is_truth (node g p.truth) ≡ true) × (is_number (node g p.number) ≡ true)) ps → All (PairIn V (range g)) ps
-    pairs_in [] below kinds = All_none (PairIn V (range g))
-    pairs_in (p ∷ ps) below kinds =
-        All_cons (PairIn V (range g)) p ps (pair_in p (below 0 0 (omega arith)) (below 1 0 (omega arith)) (kinds 0 p (omega arith)).0)
-        (pairs_in ps (λ j a l. below (suc (suc j)) a (omega arith)) (λ j a l. kinds (suc j) a (omega arith)))
-
-    numbers_in : (ps : List Pair) → All (PairIn V (range g)) ps → All (λ (p : Pair). IsIn (range g p.number) (V p.number)) ps
-    numbers_in ps h = λ j a l. record { low = (h j a l).low; high = (h j a l).high }
-
-    named : All (λ k. IsOnMap g stands (key.Node k)) (aid_of g (MinNode pairs) ∷ Kids pairs)
-    named = subst (λ (m : Formula). All (λ k. IsOnMap g stands (key.Node k)) (named_by g m)) e has.named
-
-    named_z : All (λ k. k < z) (aid_of g (MinNode pairs) ∷ Kids pairs)
-    named_z = subst (λ (m : Formula). All (λ k. k < z) (named_by g m)) e (named_less g z fold lt)
-
-    named_right : (j a : ℕ) → j < length (aid_of g (MinNode pairs) ∷ Kids pairs) → F (key.Node (get_or (aid_of g (MinNode pairs) ∷ Kids pairs) j a)) ≡ V (get_or (aid_of g (MinNode pairs) ∷ Kids pairs) j a) *ℤ pos 1
-    unfolding F
-    named_right j a l = let b = named_z j a l in read_right (get_or (aid_of g (MinNode pairs) ∷ Kids pairs) j a) (omega (arith, b, lt)) (named j a l)
-
-    chosen_at : (pair : ℕ) → pair < length pairs → F (key.Selector z pair) ≡ w pair *ℤ pos 1
-    unfolding F w
-    chosen_at pair less =
-        let there = selector_there g stands z pair (subst (λ (m : Formula). HasPairAt pair m → IsOnMap g stands (key.Selector z pair)) e (has.chosen pair) less) in
-        selector_reads g stands 1 Q z pair ∙ q_stand (column_of stands (stand.Selector z pair)) (stand.Selector z pair) there (stand_there stands (stand.Selector z pair) there)
-        ∙ ap (chosen_by V z pair) e ∙ sym (times_one (chosen_by V z pair (MinNode pairs)))
-
-    pub min_hold : Hold 1 (reading g stands 1 Q) (forms_of g z (node g z))
-    unfolding F w
-    min_hold =
-        let has_all = numbers program g stands world d point fold matched over long same in
-        let aid = min_aid g world fold has_all z lt pairs e in
-        let b = aid_of g (MinNode pairs) in
-        let any : V b ≡ as_number (list_any (λ (p : Pair). holds V p.truth) pairs) = ap V (min_place g z fold lt pairs aid.0) ∙ aid.1 in
-        let i = inside_is g world fold has_all z lt in
-        let ins = pairs_in pairs less typed in
-        let is : V z ≡ least (map (λ (p : Pair). V p.number) (filter (λ (p : Pair). holds V p.truth) pairs)) = value_here g world fold z lt ∙ ap (value_of world V) e in
-        let narrow : list_any (λ (p : Pair). holds V p.truth) pairs ≡ true → ((narrow_span (range g) pairs).lo ≤ℤ V z) × (V z ≤ℤ (narrow_span (range g) pairs).hi) =
-        λ t. let n = subst (IsIn (narrow_span (range g) pairs)) (sym is) (narrow_in g V pairs (numbers_in pairs ins) (value_one g world fold) t) in (n.low, n.high) in
-        let picks = picks_first V (V z) (λ k. (range g k).lo) (λ k. (range g k).hi) w 0 pairs (λ j k l same_k. ap (λ k. as_number (is_first (has_least V (V z)) pairs k)) (zero_plus j k same_k)) in
-        let held = min_held V w (range g z) (range g) z (narrow_span (range g) pairs) b pairs any ins i.low i.high narrow is picks in
-        let forms = min_forms (range g z) (narrow_span (range g) pairs) (range g) b z pairs in
-        let names = names_min (Is 1 F (keyed V z w)) (range g z) (narrow_span (range g) pairs) (range g) b z pairs (λ j a l. named_right (suc j) a (omega (arith, l))) (named_right 0 0 (omega arith)) (read_right z lt on) chosen_at in
-        subst (λ (m : Formula). Hold 1 F (forms_of g z m)) (sym e) (up 1 F (keyed V z w) forms names held)
-
   hold_by : (z pair : ℕ) → z < size g → IsOnMap g stands (key.Node z) → (m : Formula) → node g z ≡ m → HasPairAt pair m → Hold 1 (reading g stands 1 Q) (forms_of g z (node g z))
-  hold_by z pair lt on (MinNode pairs) e own = min_hold z lt on pairs e
+  hold_by z pair lt on (MinNode pairs) e own = least_hold program g stands world fold matched world_in z lt on pairs e
   hold_by z pair lt on FalseNode e own = absurd own
   hold_by z pair lt on TrueNode e own = absurd own
   hold_by z pair lt on (PresNode c) e own = absurd own
@@ -369,6 +190,6 @@ module _ (program : Program) (g : Graph) (stands : List Stand) (world : List ℤ
   -- the point of the world is a whole point
   pub whole : IsWellFormed program → IsWholePoint program Q
   whole formed = record {
-    between = between;
+    between = world_between program g stands world fold matched world_in;
     rows = λ k a lt. row_holds (get_or program.rows k a) (k, lt, at_any program.rows k a (get_or program.rows k a) lt) (formed.rows k a lt) (over.rows k a lt) (named_or stands (get_or program.rows k a).terms);
   }
