@@ -1,6 +1,7 @@
 pub mod Auditing
 pub mod Calling
 pub mod Doing
+pub mod GroupedBy
 pub mod Joined
 pub mod Leaving
 pub mod Listed
