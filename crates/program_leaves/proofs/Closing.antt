@@ -1,16 +1,14 @@
 -- A tree that closes has every whole point in one of its leaves: none has a better value. And rows that are false have no whole point.
-use Rattle.std.proofs.Common.{◌≡◌, ◌∙◌, sym, ap, ap₂, subst, refl, ℕ, zero, suc, ◌+◌, ◌<◌, ◌≤◌, ◌⊎◌, inl, inr, ℤ, pos, ◌+ℤ◌, ◌*ℤ◌, ◌≤ℤ◌, Bool, true, false, not, ◌&&◌, ◌||◌, List, [], ◌∷◌, length, take, get_or, All, Option, Some, None, arith}
-use Rattle.std.specs.Prelude.{int_lt}
-use Rattle.std.specs.List.{list_any, list_all}
+use Rattle.std.proofs.Common.{◌≡◌, ◌∙◌, sym, ap, subst, refl, ℕ, zero, suc, ◌<◌, ◌⊎◌, inl, inr, ℤ, pos, ◌+ℤ◌, ◌≤ℤ◌, Bool, true, false, ◌||◌, List, [], ◌∷◌, length, take, get_or, All, Option, Some, None, arith}
+use Rattle.std.specs.List.{list_any}
 use Rattle.std.proofs.lemmas.Bool.{and_parts}
 use Rattle.std.proofs.lemmas.Int.{ints}
 use Rattle.std.proofs.lemmas.List.{get_or-map, length-map}
 use Rattle.ip_rows.specs.declared.Bounds.{Bounds}
 use Rattle.ip_rows.specs.declared.rows.Coef.{Coef}
-use Rattle.ip_rows.specs.declared.rows.IpRow.{IpRow}
 use Rattle.ip_rows.specs.declared.program.Program.{Program}
-use Rattle.ip_rows.specs.Programs.{Holds, IsBetween, IsMeasured, IsWellFormed, number_at, row_at, sum_at}
-use Rattle.ip_rows.specs.Rows.{AreTerms, side_at}
+use Rattle.ip_rows.specs.Programs.{IsBetween, IsMeasured, IsWellFormed, number_at, row_at, sum_at}
+use Rattle.ip_rows.specs.Rows.{side_at}
 use Rattle.prov_fold.specs.Graphs.{Graph}
 use Rattle.prov_fold.specs.Folds.{IsFold}
 use Rattle.bool_encode.specs.declared.stand.Stand.{Stand}
@@ -20,19 +18,19 @@ use Rattle.bool_encode.specs.Stands.{stand_at}
 use Rattle.bool_encode.proofs.Numbers.{times_one}
 use Rattle.branch_tree.specs.declared.node.Leaf.TheVariants as leaf
 use Rattle.branch_tree.specs.Boxes.{low_box, high_box}
-use Rattle.branch_tree.specs.Listing.{AreSides, InBox, NoBetter, has_two, is_done, lows}
+use Rattle.branch_tree.specs.Listing.{InBox, NoBetter, has_two, is_done, lows}
 use Rattle.branch_tree.specs.Tree.{Tree, closed, split}
 use Rattle.branch_tree.proofs.Covering.{in_half, one_inside}
 use Rattle.branch_tree.proofs.Columns.{no_side}
 use Rattle.whole_points.specs.Matched.{IsMatched, world_count}
-use Rattle.whole_points.specs.Points.{AgreeOver, IsNoSelector, IsWholePoint, IsWorldOver}
+use Rattle.whole_points.specs.Points.{AgreeOver, IsNoSelector, IsWholePoint}
 use Rattle.whole_points.proofs.Whole.{over_one, world_over, world_within}
 use Rattle.whole_points.proofs.WorldNumbers.{at_any}
 use Rattle.whole_points.proofs.WorldPoints.{agree, whole}
-use Rattle.program_leaves.specs.Leaves.{IsFalseRow, is_in, is_open, leaf_point, leaf_value, meets_rows, open_sum, part_value, root_of, value_in, worlds_in}
+use Rattle.program_leaves.specs.Leaves.{IsFalseRow, is_open, leaf_point, leaf_value, part_value, root_of, value_in, worlds_in}
 use Rattle.program_leaves.specs.Closing.{Closes, ClosesAll, ClosesLeaf, HasNoPoint, IsLeastPoint, NoneBetter, value_of}
 use Rattle.program_leaves.proofs.Insides.{between_in, in_of, in_taken}
-use Rattle.program_leaves.proofs.Meets.{all_met, all_hold, value_both}
+use Rattle.program_leaves.proofs.Meets.{all_met, value_both}
 use Rattle.program_leaves.proofs.Points.{root_long, world_taken}
 use Rattle.program_leaves.proofs.Sums.{cross_sums, fixed_same, none_open, same_all, same_sums}
 

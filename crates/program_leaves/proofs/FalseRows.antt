@@ -1,12 +1,11 @@
 -- False rows, as a test and as a statement.
-use Rattle.std.proofs.Common.{◌≡◌, ◌∙◌, sym, ap, ap₂, refl, ℕ, suc, ◌<◌, Bool, true, false, not, ◌&&◌, List, [], ◌∷◌, length, All, arith}
-use Rattle.std.specs.Prelude.{nat_lt, pos, ◌↔◌, IsTrue}
+use Rattle.std.proofs.Common.{◌≡◌, ◌∙◌, sym, ap, refl, ℕ, suc, ◌<◌, Bool, true, false, not, List, [], ◌∷◌, length, All, arith}
+use Rattle.std.specs.Prelude.{nat_lt, ◌↔◌, IsTrue}
 use Rattle.std.specs.List.{list_all}
 use Rattle.std.proofs.lemmas.Bool.{and_parts, and_from, not-true}
 use Rattle.ip_rows.specs.declared.rows.Coef.{Coef}
-use Rattle.ip_rows.specs.declared.rows.IpRow.{IpRow}
 use Rattle.ip_rows.specs.declared.program.Program.{Program}
-use Rattle.ip_rows.specs.Programs.{Holds, row_at}
+use Rattle.ip_rows.specs.Programs.{row_at}
 use Rattle.prov_fold.proofs.SameLemmas.{All_cons}
 use Rattle.bool_encode.proofs.Each.{All_none}
 use Rattle.branch_tree.specs.Listing.{lows}

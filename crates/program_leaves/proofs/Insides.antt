@@ -1,14 +1,11 @@
 -- Boxes within others, and numbers within sides.
-use Rattle.std.proofs.Common.{◌≡◌, ◌∙◌, sym, ap, ap₂, subst, refl, ℕ, zero, suc, ◌+◌, ◌<◌, ◌≤◌, ℤ, pos, ◌+ℤ◌, ◌≤ℤ◌, ◌<ℤ◌, Bool, true, false, not, ◌&&◌, List, [], ◌∷◌, length, take, drop, set, get_or, arith}
-use Rattle.std.specs.Prelude.{int_lt}
-use Rattle.std.proofs.lemmas.Bool.{and_parts}
+use Rattle.std.proofs.Common.{◌≡◌, ap₂, refl, ℕ, zero, suc, ◌+◌, ◌<◌, ◌≤◌, ℤ, ◌≤ℤ◌, ◌<ℤ◌, Bool, true, ◌&&◌, List, [], ◌∷◌, length, take, drop, set, get_or, arith}
 use Rattle.std.proofs.lemmas.Int.{ints}
 use Rattle.std.proofs.lemmas.List.{drop_more, drop_all}
 use Rattle.ip_rows.specs.declared.Bounds.{Bounds}
-use Rattle.ip_rows.specs.Programs.{IsBetween, number_at}
+use Rattle.ip_rows.specs.Programs.{IsBetween}
 use Rattle.branch_tree.specs.Boxes.{IsParted, side_at, low_side, high_side, low_box, high_box}
 use Rattle.branch_tree.specs.Listing.{AreSides, InBox}
-use Rattle.branch_tree.proofs.Columns.{no_side}
 use Rattle.program_leaves.specs.Leaves.{IsInside, is_in, is_within}
 
 itself : (n : ℤ) → n ≤ℤ n

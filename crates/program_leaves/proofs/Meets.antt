@@ -1,5 +1,5 @@
 -- Rows that hold at a point, as a test and as a statement.
-use Rattle.std.proofs.Common.{◌≡◌, ◌∙◌, sym, ap, ap₂, subst, refl, ℕ, zero, suc, ◌<◌, ℤ, pos, ◌≤ℤ◌, Bool, true, false, not, ◌&&◌, List, [], ◌∷◌, length, get_or, All, Option, Some, None, arith}
+use Rattle.std.proofs.Common.{◌≡◌, sym, ap₂, refl, ℕ, suc, ℤ, pos, ◌≤ℤ◌, Bool, true, false, not, ◌&&◌, List, [], ◌∷◌, All, Option, Some, None, arith}
 use Rattle.std.specs.Prelude.{int_lt, is_some, MatchOption}
 use Rattle.std.specs.List.{list_all}
 use Rattle.std.proofs.lemmas.Bool.{and_parts}
@@ -7,7 +7,7 @@ use Rattle.std.proofs.lemmas.Int.{ints}
 use Rattle.ip_rows.specs.declared.Bounds.{Bounds}
 use Rattle.ip_rows.specs.declared.rows.IpRow.{IpRow}
 use Rattle.ip_rows.specs.declared.program.Program.{Program}
-use Rattle.ip_rows.specs.Programs.{Holds, IsFirstBroken, row_at, sum_at}
+use Rattle.ip_rows.specs.Programs.{Holds, IsFirstBroken, sum_at}
 use Rattle.prov_fold.proofs.SameLemmas.{All_cons}
 use Rattle.bool_encode.proofs.Each.{All_none}
 use Rattle.program_leaves.specs.Leaves.{is_in, is_met, meets_rows, part_value, value_in}

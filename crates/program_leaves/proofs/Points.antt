@@ -1,5 +1,5 @@
 -- The point of a world: its numbers, and that it lies within the sides.
-use Rattle.std.proofs.Common.{◌≡◌, ◌∙◌, sym, ap, subst, refl, ℕ, zero, suc, ◌<◌, ◌≤◌, ℤ, pos, ◌≤ℤ◌, Bool, true, false, List, [], ◌∷◌, length, map, take, get_or, Result, IfOk, arith}
+use Rattle.std.proofs.Common.{◌≡◌, ◌∙◌, sym, ap, subst, ℕ, ◌<◌, ◌≤◌, ℤ, pos, ◌≤ℤ◌, List, length, take, Result, IfOk, arith}
 use Rattle.std.proofs.lemmas.Int.{ints}
 use Rattle.std.proofs.lemmas.List.{get_or-map, get_or-take, length-map, length-take-le, ext_get_or}
 use Rattle.ip_rows.specs.declared.Bounds.{Bounds}
@@ -8,19 +8,16 @@ use Rattle.ip_rows.specs.declared.program.IpColumn.{IpColumn}
 use Rattle.ip_rows.specs.declared.program.Program.{Program}
 use Rattle.ip_rows.specs.Programs.{IsBetween, number_at, sides_of}
 use Rattle.ip_rows.specs.Rows.{side_at}
-use Rattle.prov_arena.specs.Formulas.{Formula, FalseNode, TrueNode, PresNode, CellNode, PosNode, NotNode, AndNode, OrNode, LinNode, GuardNode, AbsNode, TotNode, MinNode}
-use Rattle.prov_fold.specs.Graphs.{Graph, node, range, size}
+use Rattle.prov_fold.specs.Graphs.{Graph}
 use Rattle.prov_fold.specs.Folds.{IsFold}
-use Rattle.prov_fold.specs.Values.{as_number}
 use Rattle.prov_fold.specs.Meanings.{values_in}
-use Rattle.prov_fold.proofs.InsideLemmas.{inside_is}
 use Rattle.bool_encode.specs.declared.stand.Stand.{Stand}
 use Rattle.bool_encode.specs.declared.stand.Stand.TheVariants as stand
-use Rattle.bool_encode.specs.Points.{chosen_by, has_least, is_first, number_by, point_of}
+use Rattle.bool_encode.specs.Points.{number_by, point_of}
 use Rattle.bool_encode.specs.Stands.{stand_at}
 use Rattle.branch_tree.specs.Listing.{lows}
 use Rattle.branch_tree.proofs.Columns.{no_side}
-use Rattle.whole_points.specs.Matched.{IsMatched, IsColumnOf, IsOwn, IsSelector, column_at, world_count}
+use Rattle.whole_points.specs.Matched.{IsMatched, column_at, world_count}
 use Rattle.whole_points.specs.Points.{IsWorldWithin}
 use Rattle.whole_points.proofs.Whole.{if_ok}
 use Rattle.whole_points.proofs.AtWorlds.{world_between as between_at}

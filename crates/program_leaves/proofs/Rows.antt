@@ -1,5 +1,5 @@
 -- Rows of a program, and how many columns have two values.
-use Rattle.std.proofs.Common.{◌≡◌, ◌∙◌, sym, ap, subst, refl, ℕ, zero, suc, ◌+◌, ◌<◌, ◌≤◌, ◌^◌, ℤ, pos, unsigned_abs, Bool, true, false, List, [], ◌∷◌, length, get_or, arith}
+use Rattle.std.proofs.Common.{◌≡◌, ◌∙◌, sym, ap, subst, refl, ℕ, suc, ◌+◌, ◌<◌, ◌≤◌, ℤ, pos, Bool, true, false, List, [], ◌∷◌, length, get_or, arith}
 use Rattle.std.specs.Prelude.{if◌then◌else◌}
 use Rattle.ip_rows.specs.declared.Bounds.{Bounds}
 use Rattle.ip_rows.specs.declared.rows.IpRow.{IpRow}

@@ -1,20 +1,15 @@
 -- What terms come to at points of a program's box, with those at columns with one value or without.
-use Rattle.std.proofs.Common.{◌≡◌, ◌∙◌, sym, ap, ap₂, subst, refl, ℕ, zero, suc, ◌+◌, ◌*◌, ◌<◌, ◌≤◌, ◌^◌, ℤ, pos, ◌+ℤ◌, ◌*ℤ◌, ◌≤ℤ◌, unsigned_abs, FitsSigned, to_z, of_z, Bool, true, false, cond, not, ◌&&◌, List, [], ◌∷◌, length, drop, get_or, map, filter, All, arith}
+use Rattle.std.proofs.Common.{◌≡◌, ◌∙◌, sym, ap, ap₂, subst, refl, ℕ, suc, ◌+◌, ◌*◌, ◌<◌, ◌≤◌, ◌^◌, ℤ, pos, ◌+ℤ◌, ◌*ℤ◌, ◌≤ℤ◌, unsigned_abs, FitsSigned, to_z, of_z, Bool, true, false, cond, List, [], ◌∷◌, length, drop, get_or, filter, All, arith}
 use Rattle.std.specs.Prelude.{int_lt, if◌then◌else◌}
 use Rattle.std.specs.Int.{w128}
-use Rattle.std.specs.List.{list_all}
-use Rattle.std.proofs.lemmas.Bool.{and_parts}
 use Rattle.std.proofs.lemmas.Int.{ints, unsigned_abs-mul, fits_signed_from_abs, to_z-of_z}
-use Rattle.std.proofs.lemmas.List.{drop_more, drop_all, get_or-map, length-map}
-use Rattle.ip_rows.specs.declared.Bounds.{Bounds}
+use Rattle.std.proofs.lemmas.List.{drop_more, drop_all}
 use Rattle.ip_rows.specs.declared.rows.Coef.{Coef}
 use Rattle.ip_rows.specs.declared.program.Program.{Program}
 use Rattle.ip_rows.specs.Programs.{IsBetween, number_at, sum_at}
 use Rattle.ip_rows.specs.Rows.{side_at}
 use Rattle.ip_rows.specs.Sums.{IsBounded, weight_at}
 use Rattle.ip_rows.proofs.SumLemmas.{abs_sum}
-use Rattle.branch_tree.specs.Listing.{has_two, lows}
-use Rattle.branch_tree.proofs.Columns.{no_side}
 use Rattle.program_leaves.specs.Leaves.{is_open, open_sum, root_of}
 
 -- sums at two points that have the same numbers where the terms have columns

@@ -1,5 +1,5 @@
 -- Trees whose every leaf closes, whatever closes a leaf, and what such a tree says of a program's whole points.
-use Rattle.std.specs.Prelude.{◌≡◌, ◌≤ℤ◌, ◌+ℤ◌, ℕ, ℤ, List, Option, Some, Bool, true}
+use Rattle.std.specs.Prelude.{◌≡◌, ◌≤ℤ◌, ◌+ℤ◌, ℤ, List, Option, Some, true}
 use Rattle.ip_rows.specs.declared.Bounds.{Bounds}
 use Rattle.ip_rows.specs.declared.program.Program.{Program}
 use Rattle.ip_rows.specs.Programs.{sum_at}

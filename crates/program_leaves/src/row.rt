@@ -8,7 +8,7 @@ ghost use Rattle.branch_tree.specs.Listing.{lows};
 ghost use Rattle.program_leaves.specs.Leaves as spec;
 
 use crate::part::is_open;
-use ip_rows::{Coef, IpRow, Program};
+use ip_rows::{Bounds, Coef, IpRow, Program};
 
 /// The first false row: a row that has no column with two values and fails. Rows are counted from 0 (docs/REDUCTION.md).
 pub fn false_row(program: &Program) -> Option<u32>
@@ -89,10 +89,16 @@ fn least_part(program: &Program, term: &Coef) -> i128
 }
 
 /// The lower side of a column.
-#[tactic(auto, using(crate::proofs::Rows::low_column))]
 fn low_of(program: &Program, column: u32) -> i64
     requires { column < length program.now.columns }
     ensures { result ≡ number_at (lows (spec.root_of program.now)) column }
 {
-    program.columns.as_slice()[column as usize].sides.lo
+    lower(&program.columns.as_slice()[column as usize].sides)
+}
+
+/// The lower one of two sides.
+fn lower(side: &Bounds) -> i64
+    ensures { result ≡ side.now.lo }
+{
+    side.lo
 }
