@@ -1,0 +1,10 @@
+pub mod RuleChoices
+pub mod WalkChoices
+pub mod SideChoices
+pub mod RowChoices
+pub mod ValueChoices
+pub mod JoinChoices
+pub mod GroupChoices
+pub mod ViewChoices
+pub mod GoalChoices
+pub mod QueryChoices
