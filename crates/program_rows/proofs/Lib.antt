@@ -1,0 +1,15 @@
+pub mod Fairness
+pub mod Asking
+pub mod Sowing
+pub mod Gathered
+pub mod AskKinds
+pub mod Turns
+pub mod Joining
+pub mod Laying
+pub mod Made
+pub mod Matching
+pub mod Selecting
+pub mod NodeSizes
+pub mod CellSizes
+pub mod Measuring
+pub mod Fixed
