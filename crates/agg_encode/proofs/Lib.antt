@@ -1,0 +1,5 @@
+pub mod WorldColumns
+pub mod RootNodes
+pub mod Points
+pub mod Encoded
+pub mod Building
