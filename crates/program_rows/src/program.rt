@@ -1,5 +1,5 @@
 //! The program of a list of formulas.
-ghost use Rattle.std.specs.Prelude.{◌<◌, length, All, IfOk, IfSome};
+ghost use Rattle.std.specs.Prelude.{◌≡◌, ◌<◌, ◌^◌, neg_ℤ, unsigned_abs, length, All, IfOk, IfSome};
 ghost use Rattle.ip_rows.specs.Programs.{IsMeasured, IsWellFormed};
 ghost use Rattle.prov_fold.specs.Folds.{IsFold};
 ghost use Rattle.prov_fold.specs.Graphs.{HasNumber, HasTruth};
@@ -16,7 +16,7 @@ use crate::sow::seeds_of;
 use crate::{Goal, ProgramFault};
 use bool_encode::ColumnMap;
 use drop_rows::cell_rows;
-use ip_rows::Program;
+use ip_rows::{IpRow, Program};
 use prov_fold::Fold;
 use std::alloc::Global;
 use tiql_query::WorldColumn;
@@ -70,15 +70,24 @@ pub fn program_of(
         cells,
     )?;
     let aim_row = row_of(alloc, fold, &layout.map, &aim)?;
+    let constant = constant_of(&aim_row);
     Ok(Encoded {
         program: Program {
             columns: layout.columns,
             rows,
             aim: aim_row.terms,
-            constant: -aim_row.least,
+            constant,
         },
         map: layout.map,
     })
+}
+
+/// The constant of the aim, which its row has on the other side.
+fn constant_of(row: &IpRow) -> i64
+    requires { unsigned_abs row.now.least < 2 ^ 63 }
+    ensures { result ≡ neg_ℤ row.now.least }
+{
+    -row.least
 }
 
 /// What holds of every list is known where its formulas and ranges are read.

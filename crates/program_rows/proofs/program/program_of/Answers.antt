@@ -1,7 +1,6 @@
-use Rattle.std.proofs.Common.{◌≡◌, ◌∙◌, ◌<◌, ◌^◌, sym, ap, ap₂, subst, refl, ◌++◌, ◌∷◌, [], ℕ, ℤ, pos, ◌-ℤ◌, neg_ℤ, unsigned_abs, to_z, of_z, FitsSigned, w64, Bool, List, All, arith}
+use Rattle.std.proofs.Common.{rules, ◌≡◌, ◌∙◌, ◌<◌, sym, ap, ap₂, subst, refl, ◌++◌, ◌∷◌, [], ℕ, neg_ℤ, to_z, of_z, FitsSigned, w64, Bool, List, All, arith}
 use Rattle.std.specs.Prelude.{Result, Ok, Err}
 use Rattle.std.proofs.Math.Facts.{to_z-of_z}
-use Rattle.std.proofs.lemmas.Int.{ints, fits_signed_from_abs}
 use Rattle.std.proofs.lemmas.List.Elements.{Contains-append_left, Contains-append_right}
 use Rattle.std.proofs.lemmas.Result.{err_from_is_err_and}
 use Rattle.ip_rows.specs.declared.Bounds.{Bounds}
@@ -132,18 +131,11 @@ row_of-requires-clause-joined c =
     form_joined g c.known.ensures c.in_ok-seeds.seeds c.in_ok-layout.layout.map.stands c.in_ok-layout.layout.columns are (told_all c.in_ok-forms.forms ++ told c.in_ok-aim.aim ∷ []) (wanted_fair g c.args.roots.now c.args.aim c.in_ok-forms.forms c.in_ok-aim.aim c.in_ok-seeds.seeds begun) sown (told c.in_ok-aim.aim)
     (Contains-append_right (told_all c.in_ok-forms.forms) (told c.in_ok-aim.aim ∷ []) (told c.in_ok-aim.aim) (0, omega arith, refl))
 
-pub overflow_sub-result : goal.overflow_sub-result
-overflow_sub-result c =
-    let g = c.args.fold.now in
-    let stands = c.in_ok-layout.layout.map.stands in
-    let heft = row_heft g stands (told c.in_ok-aim.aim) c.in_ok-aim_row.aim_row c.in_ok-aim_row.ensures.row in
-    let light = fair_weight g stands (told c.in_ok-aim.aim) c.in_ok-aim.ensures.fair in
-    let small : unsigned_abs c.in_ok-aim_row.aim_row.least < 2 ^ 63 = omega (arith, heft, light) in
-    let is : to_z w64 (of_z w64 c.in_ok-aim_row.aim_row.least) ≡ c.in_ok-aim_row.aim_row.least = to_z-of_z (fits_signed_from_abs w64 _ small) in
-    fits_signed_from_abs w64 (pos 0 -ℤ to_z w64 (of_z w64 c.in_ok-aim_row.aim_row.least)) (omega (arith, ints, is, small))
-
-no_less : (n : ℤ) → pos 0 -ℤ n ≡ neg_ℤ n
-no_less n = omega (arith, ints)
+pub constant_of-constant-requires : goal.constant_of-constant-requires
+constant_of-constant-requires c =
+    let heft = row_heft c.args.fold.now c.in_ok-layout.layout.map.stands (told c.in_ok-aim.aim) c.in_ok-aim_row.aim_row c.in_ok-aim_row.ensures.row in
+    let light = fair_weight c.args.fold.now c.in_ok-layout.layout.map.stands (told c.in_ok-aim.aim) c.in_ok-aim.ensures.fair in
+    omega (arith, heft, light)
 
 pub returns-clause-made : goal.returns-clause-made
 returns-clause-made c =
@@ -160,13 +152,9 @@ returns-clause-made c =
     let gathered : GathersAll g stands (node_forms g c.in_ok-marks.marks ++ told_all c.in_ok-forms.forms) c.in_ok-cells.cells (Ok c.in_ok-rows.rows) =
     subst (λ (fs : List LinearForm). GathersAll g stands (node_forms g c.in_ok-marks.marks ++ told_all fs) c.in_ok-cells.cells (Ok c.in_ok-rows.rows)) c.as_slice-6.ensures
     (subst (λ (m : List Bool). GathersAll g stands (node_forms g m ++ told_all c.as_slice-6.result.now) c.in_ok-cells.cells (Ok c.in_ok-rows.rows)) c.as_slice-5.ensures c.in_ok-rows.ensures) in
-    let heft = row_heft g stands (told c.in_ok-aim.aim) c.in_ok-aim_row.aim_row c.in_ok-aim_row.ensures.row in
-    let light = fair_weight g stands (told c.in_ok-aim.aim) c.in_ok-aim.ensures.fair in
-    let small : unsigned_abs c.in_ok-aim_row.aim_row.least < 2 ^ 63 = omega (arith, heft, light) in
-    let is : to_z w64 (of_z w64 c.in_ok-aim_row.aim_row.least) ≡ c.in_ok-aim_row.aim_row.least = to_z-of_z (fits_signed_from_abs w64 _ small) in
-    let fits : FitsSigned w64 (pos 0 -ℤ to_z w64 (of_z w64 c.in_ok-aim_row.aim_row.least)) = fits_signed_from_abs w64 (pos 0 -ℤ to_z w64 (of_z w64 c.in_ok-aim_row.aim_row.least)) (omega (arith, ints, is, small)) in
-    let least : to_z w64 (of_z w64 (pos 0 -ℤ to_z w64 (of_z w64 c.in_ok-aim_row.aim_row.least))) ≡ neg_ℤ c.in_ok-aim_row.aim_row.least = to_z-of_z fits ∙ ap (λ (n : ℤ). pos 0 -ℤ n) is ∙ no_less c.in_ok-aim_row.aim_row.least in
-    let made : IsProgramOf c.args.columns.now g c.args.roots.now c.args.aim (record { columns = c.in_ok-layout.layout.columns; rows = c.in_ok-rows.rows; aim = c.in_ok-aim_row.aim_row.terms; constant = to_z w64 (of_z w64 (pos 0 -ℤ to_z w64 (of_z w64 c.in_ok-aim_row.aim_row.least))) }) stands =
+    let fits : FitsSigned w64 c.constant_of-constant.result = search rules in
+    let least : to_z w64 (of_z w64 c.constant_of-constant.result) ≡ neg_ℤ c.in_ok-aim_row.aim_row.least = to_z-of_z fits ∙ c.constant_of-constant.ensures in
+    let made : IsProgramOf c.args.columns.now g c.args.roots.now c.args.aim (record { columns = c.in_ok-layout.layout.columns; rows = c.in_ok-rows.rows; aim = c.in_ok-aim_row.aim_row.terms; constant = to_z w64 (of_z w64 c.constant_of-constant.result) }) stands =
     program_made g c.args.roots.now c.args.aim c.in_ok-forms.forms c.in_ok-aim.aim c.in_ok-seeds.seeds begun c.args.columns.now c.in_ok-marks.marks used c.in_ok-layout.layout c.in_ok-cells.cells c.in_ok-rows.rows c.in_ok-aim_row.aim_row _ laid_is c.in_ok-cells.ensures.rows gathered.0 gathered.1
     c.in_ok-aim_row.ensures.row least in
     made
@@ -186,13 +174,9 @@ returns-clause-matched c =
     let gathered : GathersAll g stands (node_forms g c.in_ok-marks.marks ++ told_all c.in_ok-forms.forms) c.in_ok-cells.cells (Ok c.in_ok-rows.rows) =
     subst (λ (fs : List LinearForm). GathersAll g stands (node_forms g c.in_ok-marks.marks ++ told_all fs) c.in_ok-cells.cells (Ok c.in_ok-rows.rows)) c.as_slice-6.ensures
     (subst (λ (m : List Bool). GathersAll g stands (node_forms g m ++ told_all c.as_slice-6.result.now) c.in_ok-cells.cells (Ok c.in_ok-rows.rows)) c.as_slice-5.ensures c.in_ok-rows.ensures) in
-    let heft = row_heft g stands (told c.in_ok-aim.aim) c.in_ok-aim_row.aim_row c.in_ok-aim_row.ensures.row in
-    let light = fair_weight g stands (told c.in_ok-aim.aim) c.in_ok-aim.ensures.fair in
-    let small : unsigned_abs c.in_ok-aim_row.aim_row.least < 2 ^ 63 = omega (arith, heft, light) in
-    let is : to_z w64 (of_z w64 c.in_ok-aim_row.aim_row.least) ≡ c.in_ok-aim_row.aim_row.least = to_z-of_z (fits_signed_from_abs w64 _ small) in
-    let fits : FitsSigned w64 (pos 0 -ℤ to_z w64 (of_z w64 c.in_ok-aim_row.aim_row.least)) = fits_signed_from_abs w64 (pos 0 -ℤ to_z w64 (of_z w64 c.in_ok-aim_row.aim_row.least)) (omega (arith, ints, is, small)) in
-    let least : to_z w64 (of_z w64 (pos 0 -ℤ to_z w64 (of_z w64 c.in_ok-aim_row.aim_row.least))) ≡ neg_ℤ c.in_ok-aim_row.aim_row.least = to_z-of_z fits ∙ ap (λ (n : ℤ). pos 0 -ℤ n) is ∙ no_less c.in_ok-aim_row.aim_row.least in
-    let made : IsProgramOf c.args.columns.now g c.args.roots.now c.args.aim (record { columns = c.in_ok-layout.layout.columns; rows = c.in_ok-rows.rows; aim = c.in_ok-aim_row.aim_row.terms; constant = to_z w64 (of_z w64 (pos 0 -ℤ to_z w64 (of_z w64 c.in_ok-aim_row.aim_row.least))) }) stands =
+    let fits : FitsSigned w64 c.constant_of-constant.result = search rules in
+    let least : to_z w64 (of_z w64 c.constant_of-constant.result) ≡ neg_ℤ c.in_ok-aim_row.aim_row.least = to_z-of_z fits ∙ c.constant_of-constant.ensures in
+    let made : IsProgramOf c.args.columns.now g c.args.roots.now c.args.aim (record { columns = c.in_ok-layout.layout.columns; rows = c.in_ok-rows.rows; aim = c.in_ok-aim_row.aim_row.terms; constant = to_z w64 (of_z w64 c.constant_of-constant.result) }) stands =
     program_made g c.args.roots.now c.args.aim c.in_ok-forms.forms c.in_ok-aim.aim c.in_ok-seeds.seeds begun c.args.columns.now c.in_ok-marks.marks used c.in_ok-layout.layout c.in_ok-cells.cells c.in_ok-rows.rows c.in_ok-aim_row.aim_row _ laid_is c.in_ok-cells.ensures.rows gathered.0 gathered.1
     c.in_ok-aim_row.ensures.row least in
     is_matched g c.known.ensures c.args.columns.now c.args.roots.now c.args.aim _ stands made c.in_ok-seeds.seeds are c.requires.led (subst (All (IsFair g)) begun.forms_are begun.forms_fair) (subst (IsFair g) begun.goal_is begun.goal_fair)
@@ -212,13 +196,9 @@ returns-clause-formed c =
     let gathered : GathersAll g stands (node_forms g c.in_ok-marks.marks ++ told_all c.in_ok-forms.forms) c.in_ok-cells.cells (Ok c.in_ok-rows.rows) =
     subst (λ (fs : List LinearForm). GathersAll g stands (node_forms g c.in_ok-marks.marks ++ told_all fs) c.in_ok-cells.cells (Ok c.in_ok-rows.rows)) c.as_slice-6.ensures
     (subst (λ (m : List Bool). GathersAll g stands (node_forms g m ++ told_all c.as_slice-6.result.now) c.in_ok-cells.cells (Ok c.in_ok-rows.rows)) c.as_slice-5.ensures c.in_ok-rows.ensures) in
-    let heft = row_heft g stands (told c.in_ok-aim.aim) c.in_ok-aim_row.aim_row c.in_ok-aim_row.ensures.row in
-    let light = fair_weight g stands (told c.in_ok-aim.aim) c.in_ok-aim.ensures.fair in
-    let small : unsigned_abs c.in_ok-aim_row.aim_row.least < 2 ^ 63 = omega (arith, heft, light) in
-    let is : to_z w64 (of_z w64 c.in_ok-aim_row.aim_row.least) ≡ c.in_ok-aim_row.aim_row.least = to_z-of_z (fits_signed_from_abs w64 _ small) in
-    let fits : FitsSigned w64 (pos 0 -ℤ to_z w64 (of_z w64 c.in_ok-aim_row.aim_row.least)) = fits_signed_from_abs w64 (pos 0 -ℤ to_z w64 (of_z w64 c.in_ok-aim_row.aim_row.least)) (omega (arith, ints, is, small)) in
-    let least : to_z w64 (of_z w64 (pos 0 -ℤ to_z w64 (of_z w64 c.in_ok-aim_row.aim_row.least))) ≡ neg_ℤ c.in_ok-aim_row.aim_row.least = to_z-of_z fits ∙ ap (λ (n : ℤ). pos 0 -ℤ n) is ∙ no_less c.in_ok-aim_row.aim_row.least in
-    let made : IsProgramOf c.args.columns.now g c.args.roots.now c.args.aim (record { columns = c.in_ok-layout.layout.columns; rows = c.in_ok-rows.rows; aim = c.in_ok-aim_row.aim_row.terms; constant = to_z w64 (of_z w64 (pos 0 -ℤ to_z w64 (of_z w64 c.in_ok-aim_row.aim_row.least))) }) stands =
+    let fits : FitsSigned w64 c.constant_of-constant.result = search rules in
+    let least : to_z w64 (of_z w64 c.constant_of-constant.result) ≡ neg_ℤ c.in_ok-aim_row.aim_row.least = to_z-of_z fits ∙ c.constant_of-constant.ensures in
+    let made : IsProgramOf c.args.columns.now g c.args.roots.now c.args.aim (record { columns = c.in_ok-layout.layout.columns; rows = c.in_ok-rows.rows; aim = c.in_ok-aim_row.aim_row.terms; constant = to_z w64 (of_z w64 c.constant_of-constant.result) }) stands =
     program_made g c.args.roots.now c.args.aim c.in_ok-forms.forms c.in_ok-aim.aim c.in_ok-seeds.seeds begun c.args.columns.now c.in_ok-marks.marks used c.in_ok-layout.layout c.in_ok-cells.cells c.in_ok-rows.rows c.in_ok-aim_row.aim_row _ laid_is c.in_ok-cells.ensures.rows gathered.0 gathered.1
     c.in_ok-aim_row.ensures.row least in
     is_formed g c.known.ensures c.args.columns.now c.args.roots.now c.args.aim _ stands made c.in_ok-seeds.seeds are c.requires.led
@@ -238,13 +218,9 @@ returns-clause-measured c =
     let gathered : GathersAll g stands (node_forms g c.in_ok-marks.marks ++ told_all c.in_ok-forms.forms) c.in_ok-cells.cells (Ok c.in_ok-rows.rows) =
     subst (λ (fs : List LinearForm). GathersAll g stands (node_forms g c.in_ok-marks.marks ++ told_all fs) c.in_ok-cells.cells (Ok c.in_ok-rows.rows)) c.as_slice-6.ensures
     (subst (λ (m : List Bool). GathersAll g stands (node_forms g m ++ told_all c.as_slice-6.result.now) c.in_ok-cells.cells (Ok c.in_ok-rows.rows)) c.as_slice-5.ensures c.in_ok-rows.ensures) in
-    let heft = row_heft g stands (told c.in_ok-aim.aim) c.in_ok-aim_row.aim_row c.in_ok-aim_row.ensures.row in
-    let light = fair_weight g stands (told c.in_ok-aim.aim) c.in_ok-aim.ensures.fair in
-    let small : unsigned_abs c.in_ok-aim_row.aim_row.least < 2 ^ 63 = omega (arith, heft, light) in
-    let is : to_z w64 (of_z w64 c.in_ok-aim_row.aim_row.least) ≡ c.in_ok-aim_row.aim_row.least = to_z-of_z (fits_signed_from_abs w64 _ small) in
-    let fits : FitsSigned w64 (pos 0 -ℤ to_z w64 (of_z w64 c.in_ok-aim_row.aim_row.least)) = fits_signed_from_abs w64 (pos 0 -ℤ to_z w64 (of_z w64 c.in_ok-aim_row.aim_row.least)) (omega (arith, ints, is, small)) in
-    let least : to_z w64 (of_z w64 (pos 0 -ℤ to_z w64 (of_z w64 c.in_ok-aim_row.aim_row.least))) ≡ neg_ℤ c.in_ok-aim_row.aim_row.least = to_z-of_z fits ∙ ap (λ (n : ℤ). pos 0 -ℤ n) is ∙ no_less c.in_ok-aim_row.aim_row.least in
-    let made : IsProgramOf c.args.columns.now g c.args.roots.now c.args.aim (record { columns = c.in_ok-layout.layout.columns; rows = c.in_ok-rows.rows; aim = c.in_ok-aim_row.aim_row.terms; constant = to_z w64 (of_z w64 (pos 0 -ℤ to_z w64 (of_z w64 c.in_ok-aim_row.aim_row.least))) }) stands =
+    let fits : FitsSigned w64 c.constant_of-constant.result = search rules in
+    let least : to_z w64 (of_z w64 c.constant_of-constant.result) ≡ neg_ℤ c.in_ok-aim_row.aim_row.least = to_z-of_z fits ∙ c.constant_of-constant.ensures in
+    let made : IsProgramOf c.args.columns.now g c.args.roots.now c.args.aim (record { columns = c.in_ok-layout.layout.columns; rows = c.in_ok-rows.rows; aim = c.in_ok-aim_row.aim_row.terms; constant = to_z w64 (of_z w64 c.constant_of-constant.result) }) stands =
     program_made g c.args.roots.now c.args.aim c.in_ok-forms.forms c.in_ok-aim.aim c.in_ok-seeds.seeds begun c.args.columns.now c.in_ok-marks.marks used c.in_ok-layout.layout c.in_ok-cells.cells c.in_ok-rows.rows c.in_ok-aim_row.aim_row _ laid_is c.in_ok-cells.ensures.rows gathered.0 gathered.1
     c.in_ok-aim_row.ensures.row least in
     is_measured g c.known.ensures c.args.columns.now c.args.roots.now c.args.aim _ stands made c.requires.ranged c.requires.led (subst (All (IsFair g)) begun.forms_are begun.forms_fair) (subst (IsFair g) begun.goal_is begun.goal_fair) c.in_ok-seeds.seeds are
