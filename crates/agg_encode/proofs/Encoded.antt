@@ -338,7 +338,7 @@ module _ (columns : List WorldColumn) (g : Graph) (fold : IsFold g) (roots : Lis
 
 -- ---- the program of a query
 
-aim_there : (g : Graph) (aim : Aim) (number : Option ℕ) → IsAim g number → All (IsNodePiece g) (aim_form (goal_of aim number)).pieces
+pub aim_there : (g : Graph) (aim : Aim) (number : Option ℕ) → IsAim g number → All (IsNodePiece g) (aim_form (goal_of aim number)).pieces
 aim_there g aims.Find None is = All_none (IsNodePiece g)
 aim_there g aims.Find (Some id) is = All_none (IsNodePiece g)
 aim_there g (aims.Sum maximize source part) None is = All_none (IsNodePiece g)

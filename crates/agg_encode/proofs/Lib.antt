@@ -3,3 +3,4 @@ pub mod RootNodes
 pub mod Points
 pub mod Encoded
 pub mod Building
+pub mod SmallValues

@@ -1,5 +1,5 @@
 -- What the whole points of a query's program are: its possible worlds that meet.
-use Rattle.std.specs.Prelude.{◌≡◌, ℤ, ◌+ℤ◌, List, length, take}
+use Rattle.std.specs.Prelude.{◌≡◌, ◌≤◌, ◌^◌, ℤ, ◌+ℤ◌, unsigned_abs, List, length, take}
 use Rattle.ip_rows.specs.declared.program.Program.{Program}
 use Rattle.ip_rows.specs.Programs.{sides_of, sum_at}
 use Rattle.tiql_query.specs.declared.query.Query.{Query}
@@ -18,6 +18,10 @@ use Rattle.world_points.specs.Points.{cost, root}
 -- what the program comes to at a point: the least value is wanted
 abbrev pub value_at : Program → List ℤ → ℤ
 value_at program point = program.constant +ℤ sum_at point program.aim
+
+-- the value at every whole point is at most 10^17 in size
+abbrev pub HasSmallValues : Program → Type 0
+HasSmallValues program = (point : List ℤ) → IsWholePoint program point → unsigned_abs (value_at program point) ≤ 10 ^ 17
 
 -- the first columns are the world's, with the sides of the choices
 pub record BeginsWithChoices (columns : List WorldColumn) (program : Program) (stands : List Stand) : Type 0 where

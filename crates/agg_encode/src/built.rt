@@ -8,7 +8,7 @@ ghost use Rattle.whole_points.specs.Matched.{IsMatched};
 ghost use Rattle.world_def.specs.Columns.{IsSmall, columns_of};
 ghost use Rattle.sym_query.specs.Meant.{AreGroupedBy};
 ghost use Rattle.agg_encode.specs.Built.{IsBuilt, TellsFault, goal_of as the_goal};
-ghost use Rattle.agg_encode.specs.Encoding.{BeginsWithChoices, Encodes};
+ghost use Rattle.agg_encode.specs.Encoding.{BeginsWithChoices, Encodes, HasSmallValues};
 
 use crate::BuildFault;
 use crate::fault::{of_program, of_walk};
@@ -60,6 +60,7 @@ pub fn build<'a>(
     ensures measured { IfOk result (λ built. IsMeasured built.program) }
     ensures matched { IfOk result (λ built. IsMatched built.program built.fold built.map.stands) }
     ensures begins { IfOk result (λ built. BeginsWithChoices columns.now built.program built.map.stands) }
+    ensures small { IfOk result (λ built. HasSmallValues built.program) }
 
     // Its whole points are the worlds that meet, with their scores.
     ensures encodes { IfOk result (λ built. AreGroupedBy query.now → Encodes query.now tables.now columns.now built.program built.fold built.map.stands) }

@@ -10,6 +10,7 @@ use Rattle.program_rows.specs.Worlds.{AreLed, IsRanged}
 use Rattle.agg_encode.specs.Built.{TellsFault, goal_of}
 use Rattle.agg_encode.proofs.Building.{choices_in, stopped}
 use Rattle.agg_encode.proofs.Encoded.{begins, encodes}
+use Rattle.agg_encode.proofs.SmallValues.{small_values}
 use Rattle.agg_encode.proofs.WorldColumns.{columns_led, columns_ranged}
 use Rattle.agg_encode.proofs.built.build.Goals as goal
 
@@ -46,6 +47,20 @@ returns-in-Ok-program_of-clause-begins c =
     (subst (λ (aim : Option Goal). IsProgramOf c.as_slice.result.now g c.as_slice-2.result.now aim program stands) c.goal_of-aim.ensures c.in-Ok-program_of.ensures.made)) in
     begins c.args.columns.now g (subst IsFold c.fold.view_is c.fold.invariant) goals.roots (goal_of c.args.query.now.aim goals.aim) program stands is
     (choices_in c.args.query.now c.args.tables.now c.args.columns.now c.in-Ok.fold c.in-Ok.ensures goals g c.requires.columns c.in-Ok-walk_query.ensures.follows)
+
+pub returns-in-Ok-program_of-clause-small : goal.returns-in-Ok-program_of-clause-small
+returns-in-Ok-program_of-clause-small c =
+    let g = c.walk_query.new.fold in
+    let goals = c.in-Ok-walk_query.goals in
+    let program = c.in-Ok-program_of.field-0.program in
+    let stands = c.in-Ok-program_of.field-0.map.stands in
+    let is : IsProgramOf c.args.columns.now g goals.roots (goal_of c.args.query.now.aim goals.aim) program stands =
+    subst (λ (columns : List WorldColumn). IsProgramOf columns g goals.roots (goal_of c.args.query.now.aim goals.aim) program stands) c.as_slice.ensures
+    (subst (λ (roots : List ℕ). IsProgramOf c.as_slice.result.now g roots (goal_of c.args.query.now.aim goals.aim) program stands) c.as_slice-2.ensures
+    (subst (λ (aim : Option Goal). IsProgramOf c.as_slice.result.now g c.as_slice-2.result.now aim program stands) c.goal_of-aim.ensures c.in-Ok-program_of.ensures.made)) in
+    small_values c.args.query.now c.args.columns.now g (subst IsFold c.fold.view_is c.fold.invariant) goals program stands is
+    (choices_in c.args.query.now c.args.tables.now c.args.columns.now c.in-Ok.fold c.in-Ok.ensures goals g c.requires.columns c.in-Ok-walk_query.ensures.follows)
+    c.in-Ok-program_of.ensures.matched c.in-Ok-walk_query.ensures.good
 
 pub returns-in-Ok-program_of-clause-encodes : goal.returns-in-Ok-program_of-clause-encodes
 returns-in-Ok-program_of-clause-encodes c =
