@@ -1,0 +1,4 @@
+pub mod Solves
+pub mod Steps
+pub mod Tells
+pub mod Worlds
